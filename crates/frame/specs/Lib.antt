@@ -1,0 +1,2 @@
+pub mod Basic
+pub mod Ours

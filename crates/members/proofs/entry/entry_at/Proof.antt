@@ -1,0 +1,46 @@
+use Prim.Native.Nat.{ℕ}
+use mathlib.Core.Path.{ap, _∙_}
+use mathlib.Core.List.{List}
+use lib.Dec.{lit≤}
+use denote.Ref.{now}
+use Rattle.octets.specs.Number.{beAt}
+use Rattle.members.specs.Mi.{miAt}
+use Rattle.members.specs.Entry.{entryAt}
+use Rattle.members.proofs.Laws.{mi-cut, be-cut}
+use borrow.Author.Needs.{needs}
+use Rattle.members.proofs.entry.entry_at.Statement.{statement}
+use Rattle.members.proofs.entry.entry_at.Tie as tie
+
+copied-requires : tie.Need-copied-requires
+copied-requires c κs = search needs
+
+slice-aggregate-mi-at : tie.Need-slice-aggregate-mi-at
+slice-aggregate-mi-at c = search needs
+
+mi-at-requires : tie.Need-mi-at-requires
+mi-at-requires c κs = search needs
+
+slice-aggregate-u32-at : tie.Need-slice-aggregate-u32-at
+slice-aggregate-u32-at c = search needs
+
+u32-at-requires : tie.Need-u32-at-requires
+u32-at-requires c κs = search needs
+
+returns : tie.Need-returns
+unfolding entryAt
+returns c = let s = now (c .before .before .before .before .before .before .args .s) in
+    let at = c .before .before .before .before .before .before .args .at in
+    let mi = c .before .before .mi-at .ensures ∙ ap (λ (k : List ℕ). miAt k 0) (c .before .before .before .before .copied .ensures) ∙ mi-cut s at in
+    let mn = c .u32-at .ensures ∙ ap (λ (k : List ℕ). beAt k 12 4) (c .before .before .before .before .copied .ensures) ∙ be-cut s at 16 12 4 (lit≤ tt) in
+    λ i. record { mi = mi i; mn = mn i }
+
+pub entry-at-spec : {M : Type 1} → statement M
+entry-at-spec =
+    tie.close
+    (tie.spec
+    copied-requires
+    slice-aggregate-mi-at
+    mi-at-requires
+    slice-aggregate-u32-at
+    u32-at-requires
+    returns)

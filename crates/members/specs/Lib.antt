@@ -1,0 +1,2 @@
+pub mod Mi
+pub mod Entry

@@ -1,0 +1,39 @@
+// A member identifier: 12 octets, as the number of the first 8 and that of the last 4.
+use octets::number;
+ghost use mathlib.Core.Path.{_≡_};
+ghost use lib.Seq.{sets};
+ghost use Rattle.members.specs.Mi.{miAt, miOctets, miSame};
+
+#[repr(C)]
+pub struct Mi {
+    pub hi: u64,
+    pub lo: u32,
+}
+
+pub fn mi_at(s: &[u8], at: usize) -> Mi
+    ensures { λ r. ⌜ r ≡ miAt (now (s .entry)) at ⌝ }
+{
+    if s.len() <= at {
+        return Mi { hi: 0, lo: 0 };
+    }
+    Mi {
+        hi: number::u64_at(s, at),
+        lo: number::u32_at(s, at + 8),
+    }
+}
+
+pub fn put_mi(out: &mut [u8], at: usize, m: Mi)
+    ensures { λ _. ⌜ now (out .exit) ≡ sets (now (out .entry)) at (miOctets m) ⌝ }
+{
+    if out.len() <= at {
+        return;
+    }
+    number::put_u64(out, at, m.hi);
+    number::put_u32(out, at + 8, m.lo);
+}
+
+pub fn same_mi(a: Mi, b: Mi) -> bool
+    ensures { λ r. ⌜ r ≡ miSame a b ⌝ }
+{
+    if a.hi == b.hi { a.lo == b.lo } else { false }
+}

@@ -1,0 +1,4 @@
+pub mod Bit
+pub mod Basic
+pub mod Used
+pub mod Sak

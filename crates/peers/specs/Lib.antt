@@ -1,0 +1,8 @@
+pub mod Lists
+pub mod Table
+pub mod Expiry
+pub mod Look
+pub mod Enter
+pub mod Counts
+pub mod Elect
+pub mod Kept

@@ -1,0 +1,74 @@
+// An accepted frame enters its sender at the end of the table, or updates it in its place.
+use crate::look::Held;
+use crate::table;
+use crate::table::Peer;
+use crate::table::ROOM;
+use crate::table::Table;
+use members::mi::Mi;
+ghost use mathlib.Core.Path.{_≡_};
+ghost use Rattle.peers.specs.Enter.{proofAfter, updated, replaced, enteredAt};
+
+// What a frame says of its sender.
+#[repr(C)]
+pub struct Heard {
+    pub mi: Mi,
+    pub mn: u32,
+    pub sci: u64,
+    pub priority: u8,
+    pub capability: u8,
+    pub server: bool,
+    pub desired: bool,
+}
+
+fn proof_after(old: u64, proves: bool, time: u64) -> u64
+    ensures { λ r. ⌜ r ≡ proofAfter old proves time ⌝ }
+{
+    if proves { time } else { old }
+}
+
+// The entry that a frame makes of `old`.
+fn update(old: Peer, h: Heard, proves: bool, time: u64) -> Peer
+    ensures { λ r. ⌜ r ≡ updated old h proves time ⌝ }
+{
+    let mi = h.mi;
+    Peer {
+        mi,
+        mn: h.mn,
+        sci: h.sci,
+        accepted: time,
+        proof: proof_after(old.proof, proves, time),
+        priority: h.priority,
+        capability: h.capability,
+        server: h.server,
+        desired: h.desired,
+        proven: facts::either(proves, old.proven),
+    }
+}
+
+// The entry at a place anew; past the slots nothing changes.
+fn replace(t: Table, at: usize, p: Peer) -> Table
+    ensures { λ r. ⌜ r ≡ replaced t at p ⌝ }
+{
+    if ROOM <= at {
+        return t;
+    }
+    let mut next = t;
+    next.peers[at] = p;
+    next
+}
+
+// `held` is what looking the sender up gave. A full table without it stays as it is.
+pub fn enter(t: Table, held: Held, h: Heard, proves: bool, time: u64) -> Table
+    ensures { λ r. ⌜ r ≡ enteredAt held h proves time t ⌝ }
+{
+    match held {
+        Held::At(i, p) => {
+            let q = update(p, h, proves, time);
+            replace(t, i, q)
+        }
+        Held::Missing => {
+            let q = update(table::blank(), h, proves, time);
+            table::push(t, q)
+        }
+    }
+}

@@ -1,0 +1,85 @@
+// Looking an identifier up, once: what a call asks of it is asked of the answer.
+use crate::table::Peer;
+use crate::table::ROOM;
+use crate::table::Table;
+use members::mi;
+use members::mi::Mi;
+ghost use mathlib.Core.Path.{_≡_};
+ghost use Rattle.peers.specs.Look.{heldIn, staleFor, noRoomFor, liveFor, potentialFor, becomesLive};
+
+// The entry of an identifier and its place, if there is one.
+pub enum Held {
+    At(usize, Peer),
+    Missing,
+}
+
+// The first entry of this identifier.
+pub fn look(t: Table, m: Mi) -> Held
+    ensures { λ r. ⌜ r ≡ heldIn m t ⌝ }
+{
+    let peers = t.peers;
+    let n = facts::at_most(t.count, ROOM);
+    let mut i: usize = 0;
+    while i < n {
+        let p = peers[i];
+        let q = p.mi;
+        if mi::same_mi(m, q) {
+            return Held::At(i, p);
+        }
+        i += 1;
+    }
+    Held::Missing
+}
+
+// Fact 11, of a frame with this message number.
+pub fn stale(held: Held, mn: u32) -> bool
+    ensures { λ r. ⌜ r ≡ staleFor held mn ⌝ }
+{
+    if mn == 0 {
+        return true;
+    }
+    match held {
+        Held::At(_, p) => mn <= p.mn,
+        Held::Missing => false,
+    }
+}
+
+// Fact 12.
+pub fn no_room(held: Held, t: Table) -> bool
+    ensures { λ r. ⌜ r ≡ noRoomFor held t ⌝ }
+{
+    match held {
+        Held::At(_, _) => false,
+        Held::Missing => ROOM <= t.count,
+    }
+}
+
+// Whether what was looked up is held and Live.
+pub fn live(held: Held) -> bool
+    ensures { λ r. ⌜ r ≡ liveFor held ⌝ }
+{
+    match held {
+        Held::At(_, p) => p.proven,
+        Held::Missing => false,
+    }
+}
+
+// Whether it is held and Potential.
+pub fn potential(held: Held) -> bool
+    ensures { λ r. ⌜ r ≡ potentialFor held ⌝ }
+{
+    match held {
+        Held::At(_, p) => !p.proven,
+        Held::Missing => false,
+    }
+}
+
+// Whether a frame takes its sender from not Live to Live.
+pub fn becomes_live(held: Held, proves: bool) -> bool
+    ensures { λ r. ⌜ r ≡ becomesLive held proves ⌝ }
+{
+    if proves {
+        return !live(held);
+    }
+    false
+}

@@ -1,0 +1,44 @@
+// The walk over the further sets of a frame, and the search of a peer list.
+use sets::kinds;
+use sets::once;
+use sets::once::Places;
+use sets::set;
+use sets::set::SetRead;
+ghost use mathlib.Core.Path.{_≡_};
+ghost use Rattle.walk.specs.Walk.{walkOf};
+
+pub mod list;
+
+// `End` tells where each set of types 1 to 4 stands, `Bad` the place of the first set that is wrong.
+pub enum Walked {
+    End(Places),
+    Bad(usize),
+}
+
+// The sets from `from` on; `stop` is the ICV's place.
+pub fn walk(frame: &[u8], from: usize, stop: usize) -> Walked
+    ensures { λ r. ⌜ r ≡ walkOf (now (frame .entry)) from stop ⌝ }
+{
+    let mut at = from;
+    let mut places = once::none();
+    'sets: loop {
+        if stop <= at {
+            break 'sets Walked::End(places);
+        }
+        let SetRead::Good(read) = set::set_head(frame, at, stop, places) else {
+            break 'sets Walked::Bad(at);
+        };
+        let k = read.kind;
+        let len = read.len;
+        let t = kinds::type_of(k);
+        let mut left = set::list_len(t, len);
+        while 0 < left {
+            if left < 16 {
+                break 'sets Walked::Bad(at);
+            }
+            left -= 16;
+        }
+        places = once::with(places, t, at, len);
+        at += set::extent(t, len);
+    }
+}

@@ -1,0 +1,35 @@
+// The search of a peer list for a member identifier.
+use members::entry;
+use members::mi;
+use members::mi::Mi;
+ghost use mathlib.Core.Path.{_≡_};
+ghost use Rattle.walk.specs.List.{foundIn};
+
+// The entry's index in the list, and its message number.
+pub enum Found {
+    At(usize, u32),
+    Nothing,
+}
+
+// The first entry with this MI, from the one with index `from` on, in the list whose header stands at `place`.
+pub fn find(frame: &[u8], place: usize, len: u16, from: usize, m: Mi) -> Found
+    ensures { λ r. ⌜ r ≡ foundIn (now (frame .entry)) place len from m ⌝ }
+{
+    if frame.len() < place {
+        return Found::Nothing;
+    }
+    if frame.len() - place < 4 + len as usize {
+        return Found::Nothing;
+    }
+    let n = (len / 16) as usize;
+    let mut i = from;
+    while i < n {
+        let e = entry::entry_at(frame, place + 4 + i * 16);
+        let x = e.mi;
+        if mi::same_mi(x, m) {
+            return Found::At(i, e.mn);
+        }
+        i += 1;
+    }
+    Found::Nothing
+}

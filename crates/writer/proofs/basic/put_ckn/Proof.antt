@@ -1,0 +1,56 @@
+-- The CKN, then the zeros where it ended.
+use Prim.Native.Nat.{_-_}
+use mathlib.Core.Path.{refl}
+use lib.ListN.{length, replicate}
+use denote.Ref.{now}
+use borrow.Author.Needs.{needs}
+use Rattle.facts.specs.Facts.{paddedOf}
+use Rattle.octets.proofs.Laws.{sets-then}
+use Rattle.writer.specs.Frame.{cknOctets}
+use Rattle.writer.proofs.basic.put_ckn.Statement.{statement}
+use Rattle.writer.proofs.basic.put_ckn.Tie as tie
+
+put-all-requires : tie.Need-put-all-requires
+put-all-requires c κs = search needs
+
+add-put-zeros : tie.Need-add-put-zeros
+add-put-zeros c = search needs
+
+add-put-zeros-2 : tie.Need-add-put-zeros-2
+add-put-zeros-2 c = search needs
+
+mul-put-zeros : tie.Need-mul-put-zeros
+mul-put-zeros c = search needs
+
+sub-put-zeros : tie.Need-sub-put-zeros
+sub-put-zeros c = search needs
+
+cast-put-zeros : tie.Need-cast-put-zeros
+cast-put-zeros c = search needs
+
+put-zeros-requires : tie.Need-put-zeros-requires
+put-zeros-requires c κs = search needs
+
+same-length : tie.Need-same-length
+same-length c = search needs
+
+returns : tie.Need-returns
+unfolding cknOctets
+returns c =
+    let a = c .before .before .before .before .before .before .before .before .before .before .args in
+    let s = now (a .ckn) in
+    cc (sets-then (now (a .out)) 36 (length s) s (replicate (paddedOf (length s) - length s) 0) refl)
+
+pub put-ckn-spec : {M : Type 1} → statement M
+put-ckn-spec =
+    tie.close
+    (tie.spec
+    put-all-requires
+    add-put-zeros
+    add-put-zeros-2
+    mul-put-zeros
+    sub-put-zeros
+    cast-put-zeros
+    put-zeros-requires
+    same-length
+    returns)

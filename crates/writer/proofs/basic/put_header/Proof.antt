@@ -1,0 +1,26 @@
+-- Two octets, then a number right after them.
+use borrow.Author.Needs.{needs}
+use Rattle.writer.specs.Frame.{headerOctets}
+use Rattle.writer.proofs.basic.put_header.Statement.{statement}
+use Rattle.writer.proofs.basic.put_header.Tie as tie
+
+put-octet-requires : tie.Need-put-octet-requires
+put-octet-requires c κs = search needs
+
+put-octet-requires-2 : tie.Need-put-octet-requires-2
+put-octet-requires-2 c κs = search needs
+
+put-u16-requires : tie.Need-put-u16-requires
+put-u16-requires c κs = search needs
+
+same-length : tie.Need-same-length
+same-length c = search needs
+
+returns : tie.Need-returns
+unfolding headerOctets
+returns c = cc
+
+pub put-header-spec : {M : Type 1} → statement M
+put-header-spec =
+    tie.close
+    (tie.spec put-octet-requires put-octet-requires-2 put-u16-requires same-length returns)

@@ -1,6 +1,6 @@
 -- Runs of stores, one after the other.
 use Prim.Native.Nat.{ℕ, suc, _+_, _*_, _≤_, _<_}
-use mathlib.Core.Path.{_≡_, ap, sym, _∙_}
+use mathlib.Core.Path.{_≡_, ap, ap₂, sym, _∙_}
 use mathlib.Core.List.{List, _++_}
 use native.Mathlib.Omega.{arith}
 use native.Mathlib.Numerals.{add-one}
@@ -31,39 +31,37 @@ entries-step l l′ at i n xs d h k e =
       add-one,
     )
 
--- a run of stores, the rest of it from a place that was computed
-pub sets-on : (l : List ℕ) (at : ℕ) (a b : List ℕ) (to : ℕ) → to ≡ at + length a → sets l at (a ++ b) ≡ sets (sets l at a) to b
-sets-on l at a b to e = sets-append l at a b ∙ ap (λ (k : ℕ). sets (sets l at a) k b) (sym e)
+-- two runs of stores, the second where the first one ended, a place that was computed
+pub sets-on : (l l1 l2 : List ℕ) (at to : ℕ) (a b : List ℕ) → to ≡ at + length a → l1 ≡ sets l at a → l2 ≡ sets l1 to b → l2 ≡ sets l at (a ++ b)
+sets-on l l1 l2 at to a b e e1 e2 =
+    e2 ∙ ap₂ (λ (z : List ℕ) (k : ℕ). sets z k b) e1 e ∙ sym (sets-append l at a b)
 
--- three runs of stores, each where the last one ended
+-- the same, n octets on
+pub sets-two : (l l1 l2 : List ℕ) (at n : ℕ) (a b : List ℕ) → length a ≡ n → l1 ≡ sets l at a → l2 ≡ sets l1 (at + n) b → l2 ≡ sets l at (a ++ b)
+sets-two l l1 l2 at n a b e = sets-on l l1 l2 at (at + n) a b (ap (λ (k : ℕ). at + k) (sym e))
+
 pub sets-three : (l l1 l2 l3 : List ℕ) (at n k : ℕ) (a b c : List ℕ) → length a ≡ n → length b ≡ k
     → l1 ≡ sets l at a → l2 ≡ sets l1 (at + n) b → l3 ≡ sets l2 (at + (n + k)) c → l3 ≡ sets l at (a ++ (b ++ c))
 sets-three l l1 l2 l3 at n k a b c ea eb e1 e2 e3 =
-    e3
-    ∙ ap (λ (z : List ℕ). sets z (at + (n + k)) c) (e2 ∙ ap (λ (z : List ℕ). sets z (at + n) b) e1)
-    ∙ sym (
-    sets-then l at n a (b ++ c) ea
-    ∙ sets-then (sets l at a) (at + n) k b c eb
-    ∙ ap (λ (j : ℕ). sets (sets (sets l at a) (at + n) b) j c) (add-assoc at n k)
-    )
+    sets-two l l1 l3 at n a (b ++ c) ea e1 (sets-two l1 l2 l3 (at + n) k b c eb e2 (e3 ∙ ap (λ (j : ℕ). sets l2 j c) (sym (add-assoc at n k))))
 
 -- a frame's parts, each stored where the last one ended
-pub stored : (l : List ℕ) (m : Mkpdu) (a b c d e : ℕ)
+pub stored : (l l1 l2 l3 l4 l5 l6 l7 : List ℕ) (m : Mkpdu) (a b c d e : ℕ)
     → a ≡ 4 + length (basicOctets (m .sender))
     → b ≡ a + length (listSet 1 (entriesOf (m .live)))
     → c ≡ b + length (listSet 2 (entriesOf (m .potential)))
     → d ≡ c + length (usePart (m .used) (m .usage))
     → e ≡ d + length (sakPart (m .distributed) (m .sak))
-    → sets (sets (sets (sets (sets (sets (sets l 0 (headerOctets (length (bodyOctets m))))
-    4 (basicOctets (m .sender)))
-    a (listSet 1 (entriesOf (m .live))))
-    b (listSet 2 (entriesOf (m .potential))))
-    c (usePart (m .used) (m .usage)))
-    d (sakPart (m .distributed) (m .sak)))
-    e (replicate 16 0)
-    ≡ sets l 0 (frameOf m)
+    → l1 ≡ sets l 0 (headerOctets (length (bodyOctets m)))
+    → l2 ≡ sets l1 4 (basicOctets (m .sender))
+    → l3 ≡ sets l2 a (listSet 1 (entriesOf (m .live)))
+    → l4 ≡ sets l3 b (listSet 2 (entriesOf (m .potential)))
+    → l5 ≡ sets l4 c (usePart (m .used) (m .usage))
+    → l6 ≡ sets l5 d (sakPart (m .distributed) (m .sak))
+    → l7 ≡ sets l6 e (replicate 16 0)
+    → l7 ≡ sets l 0 (frameOf m)
 unfolding frameOf bodyOctets
-stored l m a b c d e ea eb ec ed ee =
+stored l l1 l2 l3 l4 l5 l6 l7 m a b c d e ea eb ec ed ee e1 e2 e3 e4 e5 e6 e7 =
     let h = headerOctets (length (bodyOctets m)) in
     let p = basicOctets (m .sender) in
     let q = listSet 1 (entriesOf (m .live)) in
@@ -71,19 +69,12 @@ stored l m a b c d e ea eb ec ed ee =
     let s = usePart (m .used) (m .usage) in
     let t = sakPart (m .distributed) (m .sak) in
     let z : List ℕ = replicate 16 0 in
-    let l1 = sets l 0 h in
-    let l2 = sets l1 4 p in
-    let l3 = sets l2 a q in
-    let l4 = sets l3 b r in
-    let l5 = sets l4 c s in
-    sym (
-    sets-on l 0 h (p ++ (q ++ (r ++ (s ++ (t ++ z))))) 4 (omega (arith, length-header (length (bodyOctets m))))
-    ∙ sets-on l1 4 p (q ++ (r ++ (s ++ (t ++ z)))) a ea
-    ∙ sets-on l2 a q (r ++ (s ++ (t ++ z))) b eb
-    ∙ sets-on l3 b r (s ++ (t ++ z)) c ec
-    ∙ sets-on l4 c s (t ++ z) d ed
-    ∙ sets-on l5 d t z e ee
-    )
+    sets-two l l1 l7 0 4 h (p ++ (q ++ (r ++ (s ++ (t ++ z))))) (length-header (length (bodyOctets m))) e1
+    (sets-on l1 l2 l7 4 a p (q ++ (r ++ (s ++ (t ++ z)))) ea e2
+    (sets-on l2 l3 l7 a b q (r ++ (s ++ (t ++ z))) eb e3
+    (sets-on l3 l4 l7 b c r (s ++ (t ++ z)) ec e4
+    (sets-on l4 l5 l7 c d s (t ++ z) ed e5
+    (sets-on l5 l6 l7 d e t z ee e6 e7)))))
 
 -- a whole stored from the start
 pub sets-whole : (f l : List ℕ) → length f ≤ length l → sets l 0 f ≡ f ++ drop (length f) l

@@ -1,11 +1,12 @@
 -- The fixed part of 32 octets, then the CKN with its padding; the array's length makes n the CKN's length.
-use Prim.Native.Nat.{min}
-use mathlib.Core.Path.{_≡_, _∙_}
+use Prim.Native.Nat.{ℕ, min}
+use mathlib.Core.Path.{_≡_, ap, sym, _∙_}
 use native.Mathlib.Omega.{arith}
-use lib.ListN.{length, length-take}
+use lib.Seq.{sets}
+use lib.ListN.{length, take, length-take}
 use denote.Ref.{now}
 use borrow.Author.Needs.{needs}
-use Rattle.octets.proofs.Laws.{sets-then}
+use Rattle.writer.proofs.Stores.{sets-two}
 use Rattle.writer.proofs.Laws.{length-cknOf, length-basic, length-fixed}
 use Rattle.writer.specs.Frame.{basicOctets, fixedOctets, cknOctets, cknOf}
 use Rattle.writer.proofs.basic.put_basic.Statement.{statement}
@@ -50,8 +51,12 @@ returns c =
     let y = cknOf x in
     let e : length (x .ckn) ≡ 32 = search needs in
     let n : first .at-most .result ≡ min (x .size) 32 = first .at-most .ensures in
-    let k : length y ≡ first .at-most .result = length-cknOf x e ∙ omega arith in
-    (omega (arith, length-basic x), cc (sets-then (now (a .out)) 4 32 (fixedOctets x (length y)) (cknOctets y) (length-fixed x (length y))))
+    let k : length y ≡ first .at-most .result = length-cknOf x e ∙ omega arith in (
+      omega (arith, length-basic x),
+      sets-two (now (a .out)) (c .before .before .before .before .before .before .before .put-fixed .last .0) _ 4 32 (fixedOctets x (length y)) (cknOctets y) (length-fixed x (length y))
+          (c .before .before .before .before .before .before .before .put-fixed .ensures ∙ ap (λ (m : ℕ). sets (now (a .out)) 4 (fixedOctets x m)) (sym k))
+          (c .before .before .put-ckn .ensures ∙ ap (λ (m : ℕ). sets (c .before .before .before .before .before .before .before .put-fixed .last .0) 36 (cknOctets (take m (x .ckn)))) n),
+    )
 
 pub put-basic-spec : {M : Type 1} → statement M
 put-basic-spec =

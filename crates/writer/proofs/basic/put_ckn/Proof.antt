@@ -5,7 +5,7 @@ use lib.ListN.{length, replicate}
 use denote.Ref.{now}
 use borrow.Author.Needs.{needs}
 use Rattle.facts.specs.Facts.{paddedOf}
-use Rattle.octets.proofs.Laws.{sets-then}
+use Rattle.writer.proofs.Stores.{sets-two}
 use Rattle.writer.specs.Frame.{cknOctets}
 use Rattle.writer.proofs.basic.put_ckn.Statement.{statement}
 use Rattle.writer.proofs.basic.put_ckn.Tie as tie
@@ -37,9 +37,8 @@ same-length c = search needs
 returns : tie.Need-returns
 unfolding cknOctets
 returns c =
-    let a = c .before .before .before .before .before .before .before .before .before .before .args in
-    let s = now (a .ckn) in
-    cc (sets-then (now (a .out)) 36 (length s) s (replicate (paddedOf (length s) - length s) 0) refl)
+    let s = now (c .before .before .before .before .before .before .before .before .before .before .args .ckn) in
+    sets-two _ _ _ 36 (length s) s (replicate (paddedOf (length s) - length s) 0) refl (c .before .before .before .before .before .before .put-all .ensures) (c .before .before .put-zeros .ensures)
 
 pub put-ckn-spec : {M : Type 1} → statement M
 put-ckn-spec =

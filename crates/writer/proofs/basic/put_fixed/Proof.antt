@@ -1,13 +1,18 @@
 -- Four octets, then four numbers, each where the last one ended.
-use Prim.Native.Nat.{ℕ}
+use Prim.Native.Nat.{_+_, ℕ}
 use mathlib.Core.List.{List, _++_}
+use mathlib.Core.Path.{_≡_, ap, ap₂, _∙_}
+use lib.ListN.{set}
 use lib.Seq.{sets}
+use denote.Ref.{now}
 use borrow.Author.Needs.{needs}
+use Rattle.packed.specs.Basic.{octetOf}
 use Rattle.octets.specs.Number.{beOf}
 use Rattle.members.specs.Mi.{miOctets}
-use Rattle.octets.proofs.Laws.{sets-then, length-beOf}
+use Rattle.octets.proofs.Laws.{length-beOf}
 use Rattle.members.proofs.Laws.{length-mi}
-use Rattle.writer.specs.Frame.{fixedOctets}
+use Rattle.writer.proofs.Stores.{sets-two}
+use Rattle.writer.specs.Frame.{senderFlags, fixedOctets}
 use Rattle.writer.proofs.basic.put_fixed.Statement.{statement}
 use Rattle.writer.proofs.basic.put_fixed.Tie as tie
 
@@ -47,14 +52,19 @@ same-length c = search needs
 returns : tie.Need-returns
 unfolding fixedOctets
 returns c =
-    let x = c .before .before .before .before .before .before .before .before .before .before .before .before .before .before .before .before .before .before .before .before .before .before .before .before .before .before .before .before .before .before .before .before .before .before .before .args .x in
-    let l = c .before .before .before .before .before .before .before .before .before .before .before .before .before .before .before .before .before .before .put-octet4 .last .0 in
+    let a = c .before .before .before .before .before .before .before .before .before .before .before .before .before .before .before .before .before .before .before .before .before .before .before .before .before .before .before .before .before .before .before .before .before .before .before .args in
+    let x = a .x in
     let ag : List ℕ = beOf 4 0x0080c201 in
-    cc (
-      sets-then l 8 8 (beOf 8 (x .sci)) (miOctets (x .mi) ++ (beOf 4 (x .mn) ++ ag)) (length-beOf 8 (x .sci)),
-      sets-then (sets l 8 (beOf 8 (x .sci))) 16 12 (miOctets (x .mi)) (beOf 4 (x .mn) ++ ag) (length-mi (x .mi)),
-      sets-then (sets (sets l 8 (beOf 8 (x .sci))) 16 (miOctets (x .mi))) 28 4 (beOf 4 (x .mn)) ag (length-beOf 4 (x .mn)),
-    )
+    let octets : c .before .before .before .before .before .before .before .before .before .before .before .before .before .before .before .before .before .before .put-octet4 .last .0 ≡ set (set (set (set (now (a .out)) 4 1) 5 (x .priority)) 6 (octetOf (senderFlags x))) 7 (28 + a .n) =
+    c .before .before .before .before .before .before .before .before .before .before .before .before .before .before .before .before .before .before .put-octet4 .ensures
+    ∙ ap (λ (z : List ℕ). set z 7 (28 + a .n)) (
+    c .before .before .before .before .before .before .before .before .before .before .before .before .before .before .before .before .before .before .before .before .before .before .put-octet3 .ensures
+    ∙ ap₂ (λ (z : List ℕ) (k : ℕ). set z 6 k) (c .before .before .before .before .before .before .before .before .before .before .before .before .before .before .before .before .before .before .before .before .before .before .before .before .before .before .before .put-octet2 .ensures ∙ ap (λ (z : List ℕ). set z 5 (x .priority)) (c .before .before .before .before .before .before .before .before .before .before .before .before .before .before .before .before .before .before .before .before .before .before .before .before .before .before .before .before .before .before .before .put-octet .ensures)) (c .before .before .before .before .before .before .before .before .before .before .before .before .before .before .before .before .before .before .before .before .before .before .before .pack .ensures)) in
+    let numbers =
+    sets-two _ _ _ 8 8 (beOf 8 (x .sci)) (miOctets (x .mi) ++ (beOf 4 (x .mn) ++ ag)) (length-beOf 8 (x .sci)) (c .before .before .before .before .before .before .before .before .before .before .before .before .before .before .put-u64 .ensures)
+    (sets-two _ _ _ 16 12 (miOctets (x .mi)) (beOf 4 (x .mn) ++ ag) (length-mi (x .mi)) (c .before .before .before .before .before .before .before .before .before .before .put-mi .ensures)
+    (sets-two _ _ _ 28 4 (beOf 4 (x .mn)) ag (length-beOf 4 (x .mn)) (c .before .before .before .before .before .before .put-u32 .ensures) (c .before .before .put-u322 .ensures))) in
+    numbers ∙ ap (λ (z : List ℕ). sets z 8 (beOf 8 (x .sci) ++ (miOctets (x .mi) ++ (beOf 4 (x .mn) ++ ag)))) octets
 
 pub put-fixed-spec : {M : Type 1} → statement M
 put-fixed-spec =

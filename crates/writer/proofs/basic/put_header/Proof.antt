@@ -1,5 +1,11 @@
 -- Two octets, then a number right after them.
+use Prim.Native.Nat.{ℕ}
+use mathlib.Core.List.{List}
+use mathlib.Core.Path.{ap, _∙_}
+use lib.Seq.{sets}
+use lib.ListN.{set}
 use borrow.Author.Needs.{needs}
+use Rattle.octets.specs.Number.{beOf}
 use Rattle.writer.specs.Frame.{headerOctets}
 use Rattle.writer.proofs.basic.put_header.Statement.{statement}
 use Rattle.writer.proofs.basic.put_header.Tie as tie
@@ -18,7 +24,9 @@ same-length c = search needs
 
 returns : tie.Need-returns
 unfolding headerOctets
-returns c = cc
+returns c =
+    c .before .before .put-u16 .ensures
+    ∙ ap (λ (z : List ℕ). sets z 2 (beOf 2 (c .before .before .before .before .before .before .before .before .before .before .before .before .before .args .body))) (c .before .before .before .before .before .before .put-octet2 .ensures ∙ ap (λ (z : List ℕ). set z 1 5) (c .before .before .before .before .before .before .before .before .before .before .put-octet .ensures))
 
 pub put-header-spec : {M : Type 1} → statement M
 put-header-spec =

@@ -1,15 +1,16 @@
 -- Each call stores one part where the last one ended; `stored` joins them to the frame, `sets-whole` takes it apart from what stood past it.
-use Prim.Native.Nat.{_-_, _≤_, _<_}
-use mathlib.Core.Path.{_≡_}
+use Prim.Native.Nat.{ℕ, _-_, _≤_, _<_}
+use mathlib.Core.Path.{_≡_, ap, _∙_}
 use native.Mathlib.Omega.{arith}
+use lib.Seq.{sets}
 use lib.ListN.{length}
 use denote.Ref.{now}
 use borrow.Author.Tests.{lt-ltb, le-ltb}
 use borrow.Author.Needs.{needs}
 use Rattle.octets.specs.Run.{written}
+use Rattle.writer.specs.Frame.{headerOctets, frameOf, bodyOctets}
 use Rattle.writer.proofs.Laws.{length-frame, basic-le, entries-le, use-le}
 use Rattle.writer.proofs.Stores.{stored, sets-whole}
-use Rattle.writer.specs.Frame.{frameOf, bodyOctets}
 use Rattle.writer.proofs.frame.write.Statement.{statement}
 use Rattle.writer.proofs.frame.write.Tie as tie
 
@@ -112,13 +113,20 @@ returns-2 c =
     let k : tested .before .frame-size .result - 4 ≡ length (bodyOctets m) = omega (arith, length-frame m) in
     let room : length (frameOf m) ≤ length l = omega (arith, tested .if1 .left) in
     let s =
-    stored l m _ _ _ _ _
+    stored l _ _ _ _ _ _ _ m _ _ _ _ _
     (basic .put-basic .ensures .0)
     (live .put-list .ensures .0)
     (potential .put-list2 .ensures .0)
     (used .put-use .ensures .0)
-    (sak .put-sak .ensures .0) in
-    (rw (e, le-ltb _ _ room), rw (le-ltb _ _ room) (cc (s, sets-whole (frameOf m) l room)))
+    (sak .put-sak .ensures .0)
+    (header .put-header .ensures ∙ ap (λ (n : ℕ). sets l 0 (headerOctets n)) k)
+    (basic .put-basic .ensures .1)
+    (live .put-list .ensures .1)
+    (potential .put-list2 .ensures .1)
+    (used .put-use .ensures .1)
+    (sak .put-sak .ensures .1)
+    (c .before .before .put-zeros .ensures) in
+    (rw (e, le-ltb _ _ room), rw (le-ltb _ _ room) (s ∙ sets-whole (frameOf m) l room))
 
 pub write-spec : {M : Type 1} → statement M
 write-spec =

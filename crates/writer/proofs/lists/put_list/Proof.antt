@@ -1,13 +1,14 @@
 -- By the list's length: nothing stored, or the header and then the entries.
-use Prim.Native.Nat.{_*_, min}
-use mathlib.Core.Path.{_≡_, refl, sym, ap, _∙_}
+use Prim.Native.Nat.{ℕ, _+_, _*_, min}
+use mathlib.Core.List.{_++_}
+use mathlib.Core.Path.{_≡_, ap, sym, refl, _∙_}
 use native.Mathlib.Omega.{arith}
-use lib.ListN.{length}
+use lib.ListN.{length, take}
 use lib.Seq.{sets}
 use denote.Ref.{now}
 use borrow.Author.Needs.{needs}
 use Rattle.members.specs.Entry.{entriesOf}
-use Rattle.octets.proofs.Laws.{sets-then}
+use Rattle.writer.proofs.Stores.{sets-two}
 use Rattle.writer.proofs.Laws.{length-entries, no-list, some-list, length-some, unmapped}
 use Rattle.writer.specs.Frame.{setHeader, listOctets}
 use Rattle.writer.proofs.lists.put_list.Statement.{statement}
@@ -53,15 +54,19 @@ same-length c = search needs
 
 returns-2 : tie.Need-returns-2
 returns-2 c =
+    let header = c .before .before .before .before .before .before in
     let a = c .before .before .before .before .before .before .before .before .before .before .before .before .args in
+    let l = now (a .out) in
     let es = entriesOf (a .l) in
     let e : length (a .l .entries) ≡ 16 = search (needs, unmapped) in
     let m : c .before .before .before .before .before .before .before .before .before .before .at-most .result ≡ min (a .l .count) 16 = c .before .before .before .before .before .before .before .before .before .before .at-most .ensures in
     let z : length es ≡ c .before .before .before .before .before .before .before .before .before .before .at-most .result = length-entries (a .l) e ∙ omega arith in
-    let n : length es ≡ 0 → ⊥ = omega (arith, c .before .before .before .before .before .before .before .before .before .if1 .left) in (
-      omega (arith, length-some (a .t) es n),
-      cc (some-list (a .t) es n, sets-then (now (a .out)) (a .at) 4 (setHeader (a .t) 0 (length es * 16)) (listOctets es) refl),
-    )
+    let n : length es ≡ 0 → ⊥ = omega (arith, c .before .before .before .before .before .before .before .before .before .if1 .left) in
+    let s : c .before .before .put-entries .last .0 ≡ sets l (a .at) (setHeader (a .t) 0 (length es * 16) ++ listOctets es) =
+    sets-two l (header .put-set-header .last .0) _ (a .at) 4 (setHeader (a .t) 0 (length es * 16)) (listOctets es) refl
+    (header .put-set-header .ensures ∙ ap (λ (k : ℕ). sets l (a .at) (setHeader (a .t) 0 (k * 16))) (sym z))
+    (c .before .before .put-entries .ensures ∙ ap (λ (i : ℕ). sets (header .put-set-header .last .0) (a .at + 4) (listOctets (take i (a .l .entries)))) m) in
+    (omega (arith, length-some (a .t) es n), s ∙ ap (sets l (a .at)) (sym (some-list (a .t) es n)))
 
 pub put-list-spec : {M : Type 1} → statement M
 put-list-spec =

@@ -15,6 +15,8 @@ pub struct Runs {
     pub seeds: Range<u64>,
     pub calls: usize,
     pub kinds: Vec<Kind>,
+    /// Records of these ops are left out of each script.
+    pub without: Vec<u8>,
 }
 
 impl Runs {
@@ -22,8 +24,13 @@ impl Runs {
     fn scripts(&self) -> impl Iterator<Item = (u64, Kind, Vec<u8>)> + '_ {
         self.seeds.clone().map(|seed| {
             let kind = self.kinds[(seed % self.kinds.len() as u64) as usize];
-            (seed, kind, generate(seed, self.calls, kind))
+            (seed, kind, self.kept(&generate(seed, self.calls, kind)))
         })
+    }
+
+    fn kept(&self, script: &[u8]) -> Vec<u8> {
+        let all = records(script).into_iter();
+        all.filter(|record| !self.without.contains(&record[0])).flatten().copied().collect()
     }
 }
 

@@ -20,7 +20,7 @@ const USAGE: &str = "usage:
   second reach --seeds A..B --calls K [--kinds KIND,..]
   second mutants --seeds A..B --calls K [--kinds KIND,..]
   second compare --seeds A..B --calls K --with PROGRAM [--kinds KIND,..]
-                 [--save FILE] [--reach] [--any-reach]
+                 [--without OP,..] [--save FILE] [--reach] [--any-reach]
 KIND is one of mixed, codec, table, image, keys, garbage; seeds go from A up to B, without B.";
 
 struct Args(Vec<String>);
@@ -61,9 +61,16 @@ impl Args {
         rule.map(|&rule| Rules::with(rule)).ok_or(format!("no rule {name}"))
     }
 
+    fn without(&self) -> Result<Vec<u8>, String> {
+        let Some(ops) = self.value("--without") else {
+            return Ok(Vec::new());
+        };
+        ops.split(',').map(|op| op.parse().map_err(|_| format!("no op {op}"))).collect()
+    }
+
     fn runs(&self) -> Result<Runs, String> {
         let (seeds, calls) = (self.seeds()?, self.number("--calls")? as usize);
-        Ok(Runs { seeds, calls, kinds: self.kinds()? })
+        Ok(Runs { seeds, calls, kinds: self.kinds()?, without: self.without()? })
     }
 }
 

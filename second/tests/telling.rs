@@ -9,13 +9,16 @@ use second::script::{read_record, records};
 #[test]
 fn every_wrong_rule_is_noticed() {
     assert!(Wrong::ALL.len() >= 40);
-    assert!(mutants(&Runs { seeds: 1..301, calls: 200, kinds: Kind::ALL.to_vec() }));
+    assert!(mutants(&Runs { seeds: 1..301, calls: 200, kinds: Kind::ALL.to_vec(), without: Vec::new() }));
 }
 
 #[test]
 fn all_is_reached() {
     let mut reach = Reach::default();
-    count_reach(&Runs { seeds: 1..301, calls: 200, kinds: Kind::ALL.to_vec() }, &mut reach);
+    count_reach(
+        &Runs { seeds: 1..301, calls: 200, kinds: Kind::ALL.to_vec(), without: Vec::new() },
+        &mut reach,
+    );
     assert_eq!(reach.missing(), Vec::<String>::new());
 }
 

@@ -1,10 +1,15 @@
 // Plays a call script from standard input, and prints one line a record.
+use crate::state::Played;
+use crate::state::State;
 use libc::STDIN_FILENO;
 use libc::STDOUT_FILENO;
 use octets::number;
 
+mod calls;
 mod listing;
 mod print;
+mod state;
+mod status;
 
 fn say(out: &[u8], n: usize) {
     if n <= out.len() {
@@ -12,48 +17,39 @@ fn say(out: &[u8], n: usize) {
     }
 }
 
-// The run ends at a record that cannot be played.
-fn malformed() -> bool {
-    io::write_all(STDOUT_FILENO, b"malformed\n");
-    false
-}
-
-// One call; whether the run goes on.
-fn play(op: u8, payload: &[u8], out: &mut [u8]) -> bool {
-    if op == 11 {
-        let n = listing::line(out, payload);
-        say(out, n);
-        return true;
-    }
-    malformed()
-}
-
-// Reads one record and plays it; whether the run goes on.
-fn step(space: &mut [u8], out: &mut [u8]) -> bool {
+// Reads one record and plays it. A record that the input ends within ends the run.
+fn step(s: State, space: &mut [u8], out: &mut [u8]) -> Played {
     let mut head = [0u8; 3];
     let got = io::read_full(STDIN_FILENO, &mut head);
     if got == 0 {
-        return false;
+        return state::over(s);
     }
     if got < 3 {
-        return malformed();
+        return state::malformed(s, out);
     }
     let op = number::octet(&head, 0);
     let n = number::u16_at(&head, 1) as usize;
     if space.len() < n {
-        return malformed();
+        return state::malformed(s, out);
     }
     let read = io::read_full(STDIN_FILENO, &mut space[..n]);
     if read < n {
-        return malformed();
+        return state::malformed(s, out);
     }
-    play(op, &space[..n], out)
+    calls::play(s, op, &space[..n], out)
 }
 
 // A proved loop has to end, and nothing says that the input does: the count is one that no run uses up.
 fn run(space: &mut [u8], out: &mut [u8]) {
+    let mut s = state::none();
     let mut turns = u64::MAX;
-    while turns > 0 && step(space, out) {
+    while turns > 0 {
+        let r = step(s, space, out);
+        say(out, r.len);
+        if !r.on {
+            return;
+        }
+        s = r.state;
         turns -= 1;
     }
 }

@@ -1,5 +1,6 @@
 // Text into a buffer, from a place on; each answers the next place.
 use members::mi::Mi;
+use octets::number;
 
 pub(crate) fn put(out: &mut [u8], at: usize, x: u8) -> usize {
     if at < out.len() {
@@ -54,4 +55,15 @@ pub(crate) fn refused(out: &mut [u8], at: usize, number: u8) -> usize {
     let n = words(out, at, b"refused");
     let n = after(out, n, b' ', number as u64);
     put(out, n, b'\n')
+}
+
+// The first `len` octets of `s`, in hex.
+pub(crate) fn octets(out: &mut [u8], at: usize, s: &[u8], len: usize) -> usize {
+    let mut n = at;
+    let mut i = 0;
+    while i < len {
+        n = hex(out, n, number::octet(s, i) as u64, 2);
+        i += 1;
+    }
+    n
 }

@@ -2,8 +2,8 @@
 use Prim.Native.Nat.{ℕ, _+_, _-_}
 use mathlib.Core.List.{List}
 use mathlib.Core.Bool.{cond}
-use lib.ListN.{getD}
-use lib.Dec.{eqb}
+use lib.ListN.{length, getD}
+use lib.Dec.{leb, eqb}
 use Rattle.octets.specs.Number.{beAt}
 use Rattle.members.specs.Mi.{miAt}
 use Rattle.packed.specs.Used.{usedOf}
@@ -46,6 +46,11 @@ sakAt s at len =
       place = cond (eqb len 28) (at + 8) (at + 16);
       len = cond (eqb len 28) 24 (len - 12);
     }
+
+-- The same at a place of the frame; all zeros past its end.
+unfoldable pub sakIn : List ℕ → ℕ → ℕ → SakHeader
+sakIn s at len =
+    cond (leb (length s) at) (record { an = 0; confidentiality = 0; kn = 0; suite = 0; place = 0; len = 0 }) (sakAt s at len)
 
 -- The set of type t at `at` with a body of `len` octets.
 unfoldable pub kindAt : List ℕ → ℕ → ℕ → ℕ → Kind

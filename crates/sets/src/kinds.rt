@@ -5,7 +5,7 @@ use octets::number;
 use packed::used::KeyFlags;
 ghost use mathlib.Core.Path.{_≡_};
 ghost use Prim.Native.Nat.{_+_, _<_, _^_};
-ghost use Rattle.sets.specs.Kinds.{keyUseAt, sakUseAt, sakAt, kindAt, typeOf};
+ghost use Rattle.sets.specs.Kinds.{keyUseAt, sakUseAt, sakAt, sakIn, kindAt, typeOf};
 
 // What a SAK Use set says of one key.
 pub struct KeyUse {
@@ -94,6 +94,23 @@ fn sak_header(frame: &[u8], at: usize, len: u16) -> SakHeader
         place: at + 16,
         len: facts::less(len as usize, 12),
     }
+}
+
+// The Distributed SAK with a body of `len` octets whose header stands at `at`; all zeros past the frame.
+pub fn sak_at(frame: &[u8], at: usize, len: u16) -> SakHeader
+    ensures { λ r. ⌜ r ≡ sakIn (now (frame .entry)) at len ⌝ }
+{
+    if frame.len() <= at {
+        return SakHeader {
+            an: 0,
+            confidentiality: 0,
+            kn: 0,
+            suite: 0,
+            place: 0,
+            len: 0,
+        };
+    }
+    sak_header(frame, at, len)
 }
 
 // The kind of the set of type `t` and body length `len` whose header stands at `at`.

@@ -26,6 +26,10 @@ abbrev pub seek : Mi → ℕ → core.List Entry → Found
 seek m i [] = Nothing
 seek m i (e ∷ es) = cond (miSame (e .mi) m) (At i (e .mn)) (seek m (i + 1) es)
 
--- From the entry with index `from` on; nothing in a list that doesn't fit the frame.
+-- The entries of a list that fits the frame; none of one that doesn't.
+unfoldable pub entriesIn : core.List ℕ → ℕ → ℕ → core.List Entry
+entriesIn s place len = cond (ltb (length s) (place + (4 + len))) [] (listAt s place len)
+
+-- From the entry with index `from` on.
 unfoldable pub foundIn : core.List ℕ → ℕ → ℕ → ℕ → Mi → Found
-foundIn s place len from m = cond (ltb (length s) (place + (4 + len))) Nothing (seek m from (drop from (listAt s place len)))
+foundIn s place len from m = seek m from (drop from (entriesIn s place len))

@@ -1,60 +1,51 @@
 use mathlib.Core.Path.{_≡_}
 use lib.ListN.{length}
 use borrow.Author.Needs.{needs}
-use native.Mathlib.Omega.{arith}
 use Rattle.portcalls.proofs.run.Statement.{statement}
 use Rattle.portcalls.proofs.run.Tie as tie
-use Rattle.portcalls.proofs.run.Reads as reads
-use Rattle.portcalls.proofs.run.Lts as lts
-use Rattle.portcalls.proofs.step.Reads as step-reads
 
 abbrev Inv-loop : tie.InvT-loop
-Inv-loop space₀ out₀ turns₀ space out turns = (length space ≡ length space₀) × (length out ≡ length out₀)
+Inv-loop space₀ out₀ s₀ turns₀ space out s turns = (length space ≡ length space₀) × (length out ≡ length out₀)
 
 abbrev μ-loop : tie.MeasureT-loop
-μ-loop space₀ out₀ turns₀ space out turns = turns
+μ-loop space₀ out₀ s₀ turns₀ space out s turns = turns
 
--- src/main.rt:56:5
+none-requires : tie.Need-none-requires Inv-loop μ-loop
+none-requires c κs = search needs
+
 loop-holds : tie.Need-loop-holds Inv-loop μ-loop
 loop-holds c = search needs
 
--- src/main.rt:56:24
 step-requires : tie.Need-step-requires Inv-loop μ-loop
 step-requires c κs = search needs
 
--- src/main.rt:57:9
-sub-turns : tie.Need-sub-turns Inv-loop μ-loop
-sub-turns c = search needs
+say-requires : tie.Need-say-requires Inv-loop μ-loop
+say-requires c κs = search needs
 
--- src/main.rt:56:5
-loop-less : tie.Need-loop-less Inv-loop μ-loop
-loop-less c = search needs
-
--- src/main.rt:56:5
-loop-again : tie.Need-loop-again Inv-loop μ-loop
-loop-again c = search needs
-
--- src/main.rt:54:1
 same-length : tie.Need-same-length Inv-loop μ-loop
 same-length c = search needs
 
--- src/main.rt:54:1
 same-length-2 : tie.Need-same-length-2 Inv-loop μ-loop
 same-length-2 c = search needs
 
--- src/main.rt:54:1
 returns : tie.Need-returns Inv-loop μ-loop
 returns c = search needs
 
--- src/main.rt:54:1
+sub-turns : tie.Need-sub-turns Inv-loop μ-loop
+sub-turns c = search needs
+
+loop-less : tie.Need-loop-less Inv-loop μ-loop
+loop-less c = search needs
+
+loop-again : tie.Need-loop-again Inv-loop μ-loop
+loop-again c = search needs
+
 same-length-3 : tie.Need-same-length-3 Inv-loop μ-loop
 same-length-3 c = search needs
 
--- src/main.rt:54:1
 same-length-4 : tie.Need-same-length-4 Inv-loop μ-loop
 same-length-4 c = search needs
 
--- src/main.rt:54:1
 returns-2 : tie.Need-returns-2 Inv-loop μ-loop
 returns-2 c = search needs
 
@@ -64,14 +55,16 @@ run-spec =
     (tie.spec
     Inv-loop
     μ-loop
+    none-requires
     loop-holds
     step-requires
-    sub-turns
-    loop-less
-    loop-again
+    say-requires
     same-length
     same-length-2
     returns
+    sub-turns
+    loop-less
+    loop-again
     same-length-3
     same-length-4
     returns-2)

@@ -2,15 +2,8 @@ use Prim.Native.Nat.{_-_, _/_}
 use mathlib.Core.Path.{_≡_}
 use lib.ListN.{length}
 use borrow.Author.Needs.{needs}
-use native.Mathlib.Omega.{arith}
 use Rattle.portcalls.proofs.listing.entries.Statement.{statement}
 use Rattle.portcalls.proofs.listing.entries.Tie as tie
-use Rattle.portcalls.proofs.listing.entries.Reads as reads
-use Rattle.portcalls.proofs.listing.entries.Lts as lts
-use Rattle.members.proofs.entry.entry_at.Reads as entry-at-reads
-use Rattle.portcalls.proofs.print.after.Reads as after-reads
-use Rattle.portcalls.proofs.print.mi.Reads as mi-reads
-use Rattle.portcalls.proofs.print.put.Reads as put-reads
 
 abbrev Inv-loop : tie.InvT-loop
 Inv-loop out₀ at frame from len n₀ mark₀ i₀ out n mark i = length out ≡ length out₀
@@ -18,67 +11,51 @@ Inv-loop out₀ at frame from len n₀ mark₀ i₀ out n mark i = length out �
 abbrev μ-loop : tie.MeasureT-loop
 μ-loop out₀ at frame from len n₀ mark₀ i₀ out n mark i = len / 16 - i
 
--- src/listing.rt:27:5
 loop-holds : tie.Need-loop-holds Inv-loop μ-loop
 loop-holds c = search needs
 
--- src/listing.rt:29:13
 same-length : tie.Need-same-length Inv-loop μ-loop
 same-length c = search needs
 
--- src/listing.rt:29:13
 returns : tie.Need-returns Inv-loop μ-loop
 returns c = search needs
 
--- src/listing.rt:31:47
 cast-entry-at : tie.Need-cast-entry-at Inv-loop μ-loop
 cast-entry-at c = search needs
 
--- src/listing.rt:31:47
 mul-entry-at : tie.Need-mul-entry-at Inv-loop μ-loop
 mul-entry-at c = search needs
 
--- src/listing.rt:31:40
 add-entry-at : tie.Need-add-entry-at Inv-loop μ-loop
 add-entry-at c = search needs
 
--- src/listing.rt:31:13
 entry-at-requires : tie.Need-entry-at-requires Inv-loop μ-loop
 entry-at-requires c κs = search needs
 
--- src/listing.rt:33:9
 put-requires : tie.Need-put-requires Inv-loop μ-loop
 put-requires c κs = search needs
 
--- src/listing.rt:34:9
 mi-requires : tie.Need-mi-requires Inv-loop μ-loop
 mi-requires c κs = search needs
 
--- src/listing.rt:35:40
 cast-after : tie.Need-cast-after Inv-loop μ-loop
 cast-after c = search needs
 
--- src/listing.rt:35:9
 after-requires : tie.Need-after-requires Inv-loop μ-loop
 after-requires c κs = search needs
 
--- src/listing.rt:37:9
 add-i : tie.Need-add-i Inv-loop μ-loop
 add-i c = search needs
 
--- src/listing.rt:27:5
 loop-less : tie.Need-loop-less Inv-loop μ-loop
 loop-less c = search needs
 
--- src/listing.rt:27:5
 loop-again : tie.Need-loop-again Inv-loop μ-loop
 loop-again c = search needs
 
--- src/listing.rt:23:1
 same-length-2 : tie.Need-same-length-2 Inv-loop μ-loop
 same-length-2 c = search needs
 
--- src/listing.rt:23:1
 returns-2 : tie.Need-returns-2 Inv-loop μ-loop
 returns-2 c = search needs
 

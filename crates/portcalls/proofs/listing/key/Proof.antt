@@ -1,68 +1,47 @@
 use mathlib.Core.Path.{_∙_}
-use native.Mathlib.Omega.{arith}
 use borrow.Author.Needs.{needs}
 use Rattle.portcalls.proofs.listing.key.Statement.{statement}
 use Rattle.portcalls.proofs.listing.key.Tie as tie
-use Rattle.portcalls.proofs.listing.key.Reads as reads
-use Rattle.portcalls.proofs.listing.key.Lts as lts
-use Rattle.portcalls.proofs.print.after.Reads as after-reads
-use Rattle.portcalls.proofs.print.flag.Reads as flag-reads
-use Rattle.portcalls.proofs.print.mi.Reads as mi-reads
-use Rattle.portcalls.proofs.print.put.Reads as put-reads
 
--- src/listing.rt:44:41
 cast-after : tie.Need-cast-after
 cast-after c = search needs
 
--- src/listing.rt:44:9
 after-requires : tie.Need-after-requires
 after-requires c κs = search needs
 
--- src/listing.rt:45:9
 put-requires : tie.Need-put-requires
 put-requires c κs = search needs
 
--- src/listing.rt:46:9
 flag-requires : tie.Need-flag-requires
 flag-requires c κs = search needs
 
--- src/listing.rt:47:9
 put-requires-2 : tie.Need-put-requires-2
 put-requires-2 c κs = search needs
 
--- src/listing.rt:48:9
 flag-requires-2 : tie.Need-flag-requires-2
 flag-requires-2 c κs = search needs
 
--- src/listing.rt:49:9
 put-requires-3 : tie.Need-put-requires-3
 put-requires-3 c κs = search needs
 
--- src/listing.rt:50:9
 mi-requires : tie.Need-mi-requires
 mi-requires c κs = search needs
 
--- src/listing.rt:51:40
 cast-after-2 : tie.Need-cast-after-2
 cast-after-2 c = search needs
 
--- src/listing.rt:51:9
 after-requires-2 : tie.Need-after-requires-2
 after-requires-2 c κs = search needs
 
--- src/listing.rt:52:32
 cast-after-3 : tie.Need-cast-after-3
 cast-after-3 c = search needs
 
--- src/listing.rt:52:5
 after-requires-3 : tie.Need-after-requires-3
 after-requires-3 c κs = search needs
 
--- src/listing.rt:42:1
 same-length : tie.Need-same-length
 same-length c = c .before .before .after3 .kept .0 ∙ c .before .before .before .before .before .before .before .after2 .kept .0 ∙ c .before .before .before .before .before .before .before .before .before .before .before .before .mi .kept .0 ∙ c .before .before .before .before .before .before .before .before .before .before .before .before .before .before .before .before .put3 .kept .0 ∙ c .before .before .before .before .before .before .before .before .before .before .before .before .before .before .before .before .before .before .before .before .flag2 .kept .0 ∙ c .before .before .before .before .before .before .before .before .before .before .before .before .before .before .before .before .before .before .before .before .before .before .before .before .put2 .kept .0 ∙ c .before .before .before .before .before .before .before .before .before .before .before .before .before .before .before .before .before .before .before .before .before .before .before .before .before .before .before .before .flag .kept .0 ∙ c .before .before .before .before .before .before .before .before .before .before .before .before .before .before .before .before .before .before .before .before .before .before .before .before .before .before .before .before .before .before .before .before .put .kept .0 ∙ c .before .before .before .before .before .before .before .before .before .before .before .before .before .before .before .before .before .before .before .before .before .before .before .before .before .before .before .before .before .before .before .before .before .before .before .before .after .kept .0
 
--- src/listing.rt:42:1
 returns : tie.Need-returns
 returns c = search needs
 

@@ -2,12 +2,8 @@ use Prim.Native.Nat.{_-_}
 use mathlib.Core.Path.{_≡_}
 use lib.ListN.{length}
 use borrow.Author.Needs.{needs}
-use native.Mathlib.Omega.{arith}
 use Rattle.portcalls.proofs.print.words.Statement.{statement}
 use Rattle.portcalls.proofs.print.words.Tie as tie
-use Rattle.portcalls.proofs.print.words.Reads as reads
-use Rattle.portcalls.proofs.print.words.Lts as lts
-use Rattle.portcalls.proofs.print.put.Reads as put-reads
 
 abbrev Inv-loop : tie.InvT-loop
 Inv-loop out₀ at s n₀ i₀ out n i = length out ≡ length out₀
@@ -15,35 +11,27 @@ Inv-loop out₀ at s n₀ i₀ out n i = length out ≡ length out₀
 abbrev μ-loop : tie.MeasureT-loop
 μ-loop out₀ at s n₀ i₀ out n i = length s - i
 
--- src/print.rt:15:5
 loop-holds : tie.Need-loop-holds Inv-loop μ-loop
 loop-holds c = search needs
 
--- src/print.rt:16:25
 shared-slice-read-put : tie.Need-shared-slice-read-put Inv-loop μ-loop
 shared-slice-read-put c = search needs
 
--- src/print.rt:16:9
 put-requires : tie.Need-put-requires Inv-loop μ-loop
 put-requires c κs = search needs
 
--- src/print.rt:17:9
 add-i : tie.Need-add-i Inv-loop μ-loop
 add-i c = search needs
 
--- src/print.rt:15:5
 loop-less : tie.Need-loop-less Inv-loop μ-loop
 loop-less c = search needs
 
--- src/print.rt:15:5
 loop-again : tie.Need-loop-again Inv-loop μ-loop
 loop-again c = search needs
 
--- src/print.rt:12:1
 same-length : tie.Need-same-length Inv-loop μ-loop
 same-length c = search needs
 
--- src/print.rt:12:1
 returns : tie.Need-returns Inv-loop μ-loop
 returns c = search needs
 

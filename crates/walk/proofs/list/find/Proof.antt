@@ -1,11 +1,12 @@
 use Prim.Native.Nat.{_+_, _-_, _/_, _≤_, _<_}
 use mathlib.Core.Path.{_≡_, sym, ap, _∙_}
 use lib.ListN.{length, drop}
+use lib.Seq.{drop-nil}
 use denote.Ref.{now}
 use borrow.Author.Tests.{lt-ltb, le-ltb}
 use Rattle.members.specs.Mi.{miSame}
 use Rattle.members.specs.declared.entry.Entry.{Entry}
-use Rattle.walk.specs.List.{entriesFrom, listAt, seek, foundIn}
+use Rattle.walk.specs.List.{entriesFrom, listAt, entriesIn, seek, foundIn}
 use Rattle.walk.specs.declared.list.Found.the-variants.{At}
 use Rattle.walk.proofs.Lists.{seek-hit, seek-miss, seek-end}
 use borrow.Author.Needs.{needs}
@@ -20,10 +21,10 @@ abbrev μ-loop : tie.MeasureT-loop
 μ-loop frame place len from m n i₀ i = n - i
 
 returns : tie.Need-returns Inv-loop μ-loop
-unfolding foundIn listAt
+unfolding foundIn entriesIn listAt
 returns c = let a = c .before .before .args in
     let s = now (a .frame) in
-    let h : length s < a .place + (4 + a .len) = omega arith in rw (lt-ltb _ _ h)
+    let h : length s < a .place + (4 + a .len) = omega arith in rw (lt-ltb _ _ h, drop-nil (a .from))
 
 sub-if2 : tie.Need-sub-if2 Inv-loop μ-loop
 sub-if2 c = search needs
@@ -32,10 +33,10 @@ add-if2 : tie.Need-add-if2 Inv-loop μ-loop
 add-if2 c = search needs
 
 returns-2 : tie.Need-returns-2 Inv-loop μ-loop
-unfolding foundIn listAt
+unfolding foundIn entriesIn listAt
 returns-2 c = let a = c .before .before .before .args in
     let s = now (a .frame) in
-    let h : length s < a .place + (4 + a .len) = omega arith in rw (lt-ltb _ _ h)
+    let h : length s < a .place + (4 + a .len) = omega arith in rw (lt-ltb _ _ h, drop-nil (a .from))
 
 cast-n : tie.Need-cast-n Inv-loop μ-loop
 cast-n c = search needs
@@ -59,7 +60,7 @@ same-mi-requires : tie.Need-same-mi-requires Inv-loop μ-loop
 same-mi-requires c κs = search needs
 
 returns-3 : tie.Need-returns-3 Inv-loop μ-loop
-unfolding foundIn listAt
+unfolding foundIn entriesIn listAt
 returns-3 c = let a = c .before .before .before .before .before .before .before .before .before .args in
     let s = now (a .frame) in
     let fit : a .place + (4 + a .len) ≤ length s = omega arith in
@@ -82,7 +83,7 @@ loop-again c = let a = c .before .before .before .before .before .before .before
     seek-miss (a .len / 16) s (a .place + 4) (a .m) (l .i) (c .before .before .before .before .loop-test .taken) (ap (λ (x : Entry). miSame (x .mi) (a .m)) (sym e) ∙ sym (c .before .same-mi .ensures) ∙ c .if3 .left) ∙ l .inv
 
 returns-4 : tie.Need-returns-4 Inv-loop μ-loop
-unfolding foundIn listAt
+unfolding foundIn entriesIn listAt
 returns-4 c = let a = c .before .before .before .before .before .args in
     let s = now (a .frame) in
     let fit : a .place + (4 + a .len) ≤ length s = omega arith in

@@ -1,0 +1,2 @@
+pub mod Settle
+pub mod Fields

@@ -1,0 +1,144 @@
+-- The search for our identifier, and what the answers of the checks tell of the facts behind them.
+use Prim.Native.Nat.{ℕ, suc, _+_, _-_, _/_, _≤_, _<_}
+use mathlib.Core.Path.{_≡_, refl, sym, ap, _∙_}
+use mathlib.Core.Bool.{Bool, true, false, cond, _||_, _&&_}
+use mathlib.Core.List.{List, [], _∷_, _++_}
+use native.Mathlib.Omega.{arith}
+use lib.ListN.{length, drop, length-drop}
+use lib.Seq.{drop-drop}
+use lib.Dec.{eqb, ltb}
+use Rattle.facts.specs.Facts.{firstOf}
+use Rattle.members.specs.Mi.{miSame}
+use Rattle.members.specs.declared.mi.Mi.{Mi}
+use Rattle.members.specs.declared.entry.Entry.{Entry}
+use Rattle.frame.specs.Basic.{bodyLen, basicLen, fact2, fact3, fact4, fact5, basicAnswer, basicOf}
+use Rattle.frame.specs.declared.basic.Basic.{Basic}
+use Rattle.frame.specs.declared.basic.BasicRead.the-variants as read
+use Rattle.sets.specs.declared.once.Places.{Places}
+use Rattle.walk.specs.List.{listAt, entriesIn, seek}
+use Rattle.walk.specs.declared.list.Found.the-variants.{At, Nothing}
+use Rattle.walk.proofs.Lists.{length-entries}
+use Rattle.participant.specs.declared.record.Participant.{Participant}
+use Rattle.receive.specs.Proof.{isRecent, anyRecent}
+use Rattle.receive.specs.Judge.{basicIn, walkIn, placesIn, frameFacts, judgedOf}
+use Rattle.receive.specs.Receive.{tableFacts, receiveFacts}
+use Rattle.receive.specs.declared.judge.Judged.the-variants as judged
+
+-- ---- the search
+
+module _ (own : Mi) (sent : ℕ) where
+  pub seek-at : (i : ℕ) (l : List Entry) (j mn : ℕ) → seek own i l ≡ At j mn
+      → (i ≤ j) × (j < i + length l) × (anyRecent own sent l ≡ isRecent mn sent || anyRecent own sent (drop (j + 1 - i) l))
+  seek-at i [] j mn e = let z : _≡_ {A = ℕ} 0 1 = cc in absurd (omega arith)
+  seek-at i (x ∷ xs) j mn e = go (miSame (x .mi) own) (seek-at (i + 1) xs j mn) e
+    where
+      go : (t : Bool)
+          → (seek own (i + 1) xs ≡ At j mn → (i + 1 ≤ j) × (j < i + 1 + length xs) × (anyRecent own sent xs ≡ isRecent mn sent || anyRecent own sent (drop (j + 1 - (i + 1)) xs)))
+          → cond t (At i (x .mn)) (seek own (i + 1) xs) ≡ At j mn
+          → (i ≤ j) × (j < i + suc (length xs)) × ((t && isRecent (x .mn) sent) || anyRecent own sent xs ≡ isRecent mn sent || anyRecent own sent (drop (j + 1 - i) (x ∷ xs)))
+      go true later e′ =
+          let a : i ≡ j = cc in
+          let m : x .mn ≡ mn = cc in
+          let d : j + 1 - i ≡ 1 = omega arith in
+          (omega arith, omega arith, rw (m, d))
+      go false later e′ =
+          let r = later e′ in
+          let d : j + 1 - i ≡ suc (j + 1 - (i + 1)) = omega (arith, r .0) in
+          (omega (arith, r .0), omega (arith, r .1), rw d (r .2))
+
+  pub seek-none : (i : ℕ) (l : List Entry) → seek own i l ≡ Nothing → anyRecent own sent l ≡ false
+  seek-none i [] e = refl
+  seek-none i (x ∷ xs) e = go (miSame (x .mi) own) (seek-none (i + 1) xs) e
+    where
+      go : (t : Bool) → (seek own (i + 1) xs ≡ Nothing → anyRecent own sent xs ≡ false) → cond t (At i (x .mn)) (seek own (i + 1) xs) ≡ Nothing
+          → (t && isRecent (x .mn) sent) || anyRecent own sent xs ≡ false
+      go true later e′ = let z : _≡_ {A = ℕ} 0 1 = cc in absurd (omega arith)
+      go false later e′ = later e′
+
+  -- one entry with our identifier, of a list from index i on
+  pub named-next : (i : ℕ) (l : List Entry) (j mn : ℕ) → i ≤ length l → seek own i (drop i l) ≡ At j mn
+      → (i ≤ j) × (j < length l) × (anyRecent own sent (drop i l) ≡ isRecent mn sent || anyRecent own sent (drop (j + 1) l))
+  named-next i l j mn h e =
+      let a = seek-at i (drop i l) j mn e in
+      let n : length (drop i l) ≡ length l - i = length-drop i l in
+      let d : i + (j + 1 - i) ≡ j + 1 = omega (arith, a .0) in
+      (a .0, omega (arith, a .1), a .2 ∙ ap (λ (k : List Entry). isRecent mn sent || anyRecent own sent k) (drop-drop (j + 1 - i) i l ∙ ap (λ (k : ℕ). drop k l) d))
+
+cond-length : (t : Bool) (l : List Entry) (n : ℕ) → length l ≤ n → length (cond t [] l) ≤ n
+cond-length true l n h = omega arith
+cond-length false l n h = h
+
+pub entries-few : (s : List ℕ) (place len : ℕ) → length (entriesIn s place len) ≤ len / 16
+unfolding entriesIn listAt
+entries-few s place len = cond-length (ltb (length s) (place + (4 + len))) _ (len / 16) (let e = length-entries (len / 16) s (place + 4) in omega arith)
+
+-- ---- facts 2 to 5
+
+four-good : (t2 t3 t4 t5 : Bool) (x b : Basic) → basicAnswer (firstOf ((2, t2) ∷ (3, t3) ∷ (4, t4) ∷ (5, t5) ∷ [])) x ≡ read.Read b
+    → (t2 ≡ false) × (t3 ≡ false) × (t4 ≡ false) × (t5 ≡ false) × (x ≡ b)
+four-good false false false false x b e = (refl, refl, refl, refl, cc)
+four-good true t3 t4 t5 x b e = let z : _≡_ {A = ℕ} 0 1 = cc in absurd (omega arith)
+four-good false true t4 t5 x b e = let z : _≡_ {A = ℕ} 0 1 = cc in absurd (omega arith)
+four-good false false true t5 x b e = let z : _≡_ {A = ℕ} 0 1 = cc in absurd (omega arith)
+four-good false false false true x b e = let z : _≡_ {A = ℕ} 0 1 = cc in absurd (omega arith)
+
+pub basic-good : (s : List ℕ) (b : Basic) → basicOf s ≡ read.Read b
+    → (fact2 s ≡ false) × (fact3 s ≡ false) × (fact4 (bodyLen s) ≡ false) × (fact5 (basicLen s) (bodyLen s) ≡ false) × (basicIn s ≡ b)
+unfolding basicOf
+basic-good s b e = four-good (fact2 s) (fact3 s) (fact4 (bodyLen s)) (fact5 (basicLen s) (bodyLen s)) (basicIn s) b e
+
+four-bad : (t2 t3 t4 t5 : Bool) (x : Basic) (n : ℕ) (more : List (ℕ × Bool)) → basicAnswer (firstOf ((2, t2) ∷ (3, t3) ∷ (4, t4) ∷ (5, t5) ∷ [])) x ≡ read.Refused n
+    → (firstOf ((2, t2) ∷ (3, t3) ∷ (4, t4) ∷ (5, t5) ∷ more) ≡ n) × (eqb n 0 ≡ false)
+four-bad true t3 t4 t5 x n more e = let m : 2 ≡ n = cc in (m, rw (← m))
+four-bad false true t4 t5 x n more e = let m : 3 ≡ n = cc in (m, rw (← m))
+four-bad false false true t5 x n more e = let m : 4 ≡ n = cc in (m, rw (← m))
+four-bad false false false true x n more e = let m : 5 ≡ n = cc in (m, rw (← m))
+four-bad false false false false x n more e = let z : _≡_ {A = ℕ} 0 1 = cc in absurd (omega arith)
+
+pub basic-bad : (s : List ℕ) (n : ℕ) (more : List (ℕ × Bool)) → basicOf s ≡ read.Refused n
+    → (firstOf ((2, fact2 s) ∷ (3, fact3 s) ∷ (4, fact4 (bodyLen s)) ∷ (5, fact5 (basicLen s) (bodyLen s)) ∷ more) ≡ n) × (eqb n 0 ≡ false)
+unfolding basicOf
+basic-bad s n more e = four-bad (fact2 s) (fact3 s) (fact4 (bodyLen s)) (fact5 (basicLen s) (bodyLen s)) (basicIn s) n more e
+
+-- ---- the first fact of two lists
+
+abbrev Counted : List (ℕ × Bool) → Type 0
+Counted [] = Unit {0}
+Counted (f ∷ fs) = (eqb (f .0) 0 ≡ false) × Counted fs
+
+first-more : (fs gs : List (ℕ × Bool)) → Counted fs → firstOf (fs ++ gs) ≡ cond (eqb (firstOf fs) 0) (firstOf gs) (firstOf fs)
+first-more [] gs c = refl
+first-more (f ∷ fs) gs c = go (f .1) (first-more fs gs (c .1))
+  where
+    go : (t : Bool) → firstOf (fs ++ gs) ≡ cond (eqb (firstOf fs) 0) (firstOf gs) (firstOf fs)
+        → cond t (f .0) (firstOf (fs ++ gs)) ≡ cond (eqb (cond t (f .0) (firstOf fs)) 0) (firstOf gs) (cond t (f .0) (firstOf fs))
+    go true later = rw (c .0)
+    go false later = later
+
+answer-good : (t : Bool) (n : ℕ) (x b : Basic) (y w : Places) → cond t (judged.Good x y) (judged.Refused n) ≡ judged.Good b w → (t ≡ true) × (x ≡ b) × (y ≡ w)
+answer-good true n x b y w e = (refl, cc, cc)
+answer-good false n x b y w e = let z : _≡_ {A = ℕ} 0 1 = cc in absurd (omega arith)
+
+answer-bad : (t : Bool) (m n : ℕ) (x : Basic) (y : Places) → cond t (judged.Good x y) (judged.Refused m) ≡ judged.Refused n → (t ≡ false) × (m ≡ n)
+answer-bad false m n x y e = (refl, cc)
+answer-bad true m n x y e = let z : _≡_ {A = ℕ} 0 1 = cc in absurd (omega arith)
+
+module _ (p : Participant) (time : ℕ) (verdict : Bool) (s : List ℕ) where
+  split : firstOf (receiveFacts p time verdict s)
+      ≡ cond (eqb (firstOf (frameFacts p time verdict s)) 0) (firstOf (tableFacts p time (basicIn s))) (firstOf (frameFacts p time verdict s))
+  unfolding receiveFacts frameFacts
+  split = first-more (frameFacts p time verdict s) (tableFacts p time (basicIn s)) (refl, (refl, (refl, (refl, (refl, (refl, (refl, (refl, (refl, tt)))))))))
+
+  pub judged-good : (b : Basic) (w : Places) → judgedOf p time verdict s ≡ judged.Good b w
+      → (firstOf (receiveFacts p time verdict s) ≡ firstOf (tableFacts p time b)) × (basicIn s ≡ b) × (placesIn (walkIn s) ≡ w)
+  unfolding judgedOf
+  judged-good b w e =
+      let a = answer-good (eqb (firstOf (frameFacts p time verdict s)) 0) (firstOf (frameFacts p time verdict s)) (basicIn s) b (placesIn (walkIn s)) w e in
+      (split ∙ rw (a .0, a .1), a .1, a .2)
+
+  pub judged-bad : (n : ℕ) → judgedOf p time verdict s ≡ judged.Refused n → (firstOf (receiveFacts p time verdict s) ≡ n) × (eqb n 0 ≡ false)
+  unfolding judgedOf
+  judged-bad n e =
+      let m = firstOf (frameFacts p time verdict s) in
+      let a = answer-bad (eqb m 0) m n (basicIn s) (placesIn (walkIn s)) e in
+      (split ∙ rw (a .0) (a .1), ap (λ (k : ℕ). eqb k 0) (sym (a .1)) ∙ a .0)

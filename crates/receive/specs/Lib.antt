@@ -1,0 +1,4 @@
+pub mod Proof
+pub mod Judge
+pub mod Keys
+pub mod Receive

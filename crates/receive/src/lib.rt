@@ -1,0 +1,5 @@
+// An accepted frame, and the eleven ways not to be one.
+pub mod judge;
+pub mod keys;
+pub mod proof;
+pub mod receive;

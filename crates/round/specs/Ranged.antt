@@ -40,11 +40,9 @@ pub record GoodKey (k : KeyUse) : Type 0 where
   pub kn : k .kn < 2 ^ 32
   pub pn : k .pn < 2 ^ 32
 
--- "The key number (KN) is not zero"
 pub record GoodSak (k : Sak) : Type 0 where
   pub an : k .an < 4
   pub confidentiality : k .confidentiality < 4
-  pub some : 0 < k .kn
   pub kn : k .kn < 2 ^ 32
   pub wrapped : length (k .wrapped) ≡ 24
 
@@ -56,6 +54,8 @@ pub record Ranged (m : Mkpdu) : Type 0 where
   pub latest : GoodKey (m .usage .latest)
   pub old : GoodKey (m .usage .old)
   pub sak : GoodSak (m .sak)
+  -- "The key number (KN) is not zero"
+  pub numbered : m .distributed ≡ true → 0 < m .sak .kn
 
 -- the Basic set of a frame with a body of b octets
 abbrev pub basicWritten : Sender → ℕ → Basic

@@ -156,7 +156,7 @@ module _ (m : Mkpdu) (rest : List ℕ) (r : Ranged m) where
   sak-there e = there f (sakSet (m .sak)) (sakPlace m) (m .distributed) e sak-stand
 
   sak-good : m .distributed ≡ true → badBody 4 28 (beAt f (sakPlace m + 4) 4) ≡ false
-  sak-good e = rw (kn-stands f (m .sak) (sakPlace m) (r .sak) (sak-there e)) (sak-body (m .sak .kn) (r .sak .some))
+  sak-good e = rw (kn-stands f (m .sak) (sakPlace m) (r .sak) (sak-there e)) (sak-body (m .sak .kn) (r .numbered e))
 
   -- facts 2 to 5 pass, and the Basic set is read as it was written
   pub basic-back : basicOf f ≡ Read (basicWritten (m .sender) b)

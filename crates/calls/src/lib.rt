@@ -1,0 +1,1 @@
+// What holds of every call: theorems about the definitions, no code.

@@ -1,0 +1,2 @@
+pub mod Sendable
+pub mod Sent

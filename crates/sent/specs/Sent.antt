@@ -1,0 +1,74 @@
+-- Reading what a send wrote gives back our identifier, MN + 1, our Live and Potential peers with their numbers, and the keys' fields.
+use Prim.Native.Nat.{ℕ, _+_, _-_, _^_, _<_}
+use mathlib.Core.Path.{_≡_, refl, ap, sym, _∙_}
+use mathlib.Core.Bool.{true, false}
+use mathlib.Core.List.{List, _++_, map}
+use lib.ListN.{length}
+use Rattle.facts.specs.Facts.{firstOf}
+use Rattle.octets.specs.Run.{partOf}
+use Rattle.frame.specs.Basic.{basicOf}
+use Rattle.frame.specs.declared.basic.BasicRead.the-variants.{Read}
+use Rattle.sets.specs.Kinds.{sakUseAt, sakAt}
+use Rattle.walk.specs.List.{listAt}
+use Rattle.walk.specs.Walk.{walkOf}
+use Rattle.walk.specs.declared.Walked.the-variants.{End}
+use Rattle.peers.specs.Lists.{those}
+use Rattle.peers.specs.Table.{entries}
+use Rattle.peers.specs.Look.{isLive, isPotential}
+use Rattle.peers.specs.Counts.{entryOf}
+use Rattle.peers.proofs.Listing.{live-listed, potential-listed}
+use Rattle.writer.specs.Frame.{bodyOctets}
+use Rattle.writer.specs.declared.mkpdu.Mkpdu.{Mkpdu}
+use Rattle.participant.specs.Call.{agedTo}
+use Rattle.participant.specs.declared.record.Participant.{Participant}
+use Rattle.send.specs.Message.{handsOut, keyUseOf, sakOf, senderOf, messageOf}
+use Rattle.send.specs.Send.{frameAt}
+use Rattle.round.specs.Ranged.{basicWritten, livePlace, usePlace, sakPlace, placesWritten, sakWritten}
+use Rattle.round.specs.Round.{basic-back, walk-back, live-back, potential-back, use-back, sak-back, wrapped-back}
+use Rattle.sent.specs.Sendable.{Sendable, message-ranged}
+
+-- any send of a participant that fits, whatever follows the frame in the lent octets
+module _ (p : Participant) (time latestPn oldPn : ℕ) (rest : List ℕ) (hl : latestPn < 2 ^ 32) (ho : oldPn < 2 ^ 32) (g : Sendable (agedTo p time)) where
+  abbrev pub q : Participant
+  q = agedTo p time
+
+  abbrev pub m : Mkpdu
+  m = messageOf q latestPn oldPn
+
+  abbrev pub sent : List ℕ
+  sent = frameAt p time latestPn oldPn ++ rest
+
+  -- our identifier and MN + 1 are among the fields of `senderOf q`
+  pub sender-read : basicOf sent ≡ Read (basicWritten (senderOf q) (length (bodyOctets m)))
+  unfolding frameAt messageOf
+  sender-read = basic-back m rest (message-ranged q latestPn oldPn hl ho g)
+
+  pub number-read : (basicWritten (senderOf q) (length (bodyOctets m)) .mn ≡ p .mn + 1) × (basicWritten (senderOf q) (length (bodyOctets m)) .mi ≡ p .mi)
+  unfolding senderOf agedTo
+  number-read = (refl, refl)
+
+  pub sets-read : walkOf sent (livePlace m) (length (bodyOctets m) - 12) ≡ End (placesWritten m)
+  unfolding frameAt
+  sets-read = walk-back m rest (message-ranged q latestPn oldPn hl ho g)
+
+  -- the peers with their numbers, in table order after expiry
+  pub live-read : listAt sent (placesWritten m .live .place) (placesWritten m .live .len) ≡ map entryOf (those isLive (entries (q .table)))
+  unfolding frameAt messageOf
+  live-read = live-back m rest (message-ranged q latestPn oldPn hl ho g) ∙ live-listed (q .table)
+
+  pub potential-read : listAt sent (placesWritten m .potential .place) (placesWritten m .potential .len) ≡ map entryOf (those isPotential (entries (q .table)))
+  unfolding frameAt messageOf
+  potential-read = potential-back m rest (message-ranged q latestPn oldPn hl ho g) ∙ potential-listed (q .table)
+
+  -- the keys
+  pub use-read : q .latest .held ≡ true → sakUseAt sent (usePlace m) ≡ record { latest = keyUseOf (q .latest) latestPn; old = keyUseOf (q .old) oldPn }
+  unfolding frameAt messageOf
+  use-read e = use-back m rest (message-ranged q latestPn oldPn hl ho g) e
+
+  pub sak-read : handsOut q ≡ true → sakAt sent (sakPlace m) 28 ≡ sakWritten (sakOf q) (sakPlace m)
+  unfolding frameAt messageOf
+  sak-read e = sak-back m rest (message-ranged q latestPn oldPn hl ho g) e
+
+  pub wrapped-read : handsOut q ≡ true → partOf sent (sakPlace m + 8) 24 ≡ q .wrapped
+  unfolding frameAt messageOf sakOf
+  wrapped-read e = wrapped-back m rest (message-ranged q latestPn oldPn hl ho g) e

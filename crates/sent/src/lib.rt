@@ -1,0 +1,1 @@
+// What a send wrote, read again: theorems about the definitions, no code.

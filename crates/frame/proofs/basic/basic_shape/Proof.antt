@@ -4,10 +4,10 @@ use Rattle.frame.proofs.basic.basic_shape.Statement.{statement}
 use Rattle.frame.proofs.basic.basic_shape.Tie as tie
 
 returns : tie.Need-returns
-returns c = rw (lt-ltb _ _ (c .if1 .taken))
+returns c = rw (lt-ltb _ 29 (c .if1 .taken))
 
 returns-2 : tie.Need-returns-2
-returns-2 c = rw (le-ltb _ _ (c .before .if1 .left), lt-ltb _ _ (c .if2 .taken))
+returns-2 c = rw (le-ltb _ 29 (c .before .if1 .left), lt-ltb 60 _ (c .if2 .taken))
 
 padded-requires : tie.Need-padded-requires
 padded-requires c κs = search needs
@@ -22,7 +22,7 @@ fail-if-requires : tie.Need-fail-if-requires
 fail-if-requires c κs = search needs
 
 returns-3 : tie.Need-returns-3
-returns-3 c = rw (le-ltb _ _ (c .before .before .before .if1 .left), le-ltb _ _ (c .before .before .if2 .left), ← c .before .padded .ensures) (c .fail-if .ensures)
+returns-3 c = rw (le-ltb _ 29 (c .before .before .before .if1 .left), le-ltb 60 _ (c .before .before .if2 .left), ← c .before .padded .ensures) (c .fail-if .ensures)
 
 pub basic-shape-spec : {M : Type 1} → statement M
 basic-shape-spec =

@@ -15,7 +15,7 @@ less-requires c κs = search needs
 
 returns-2 : tie.Need-returns-2
 unfolding headOf badHead setFields
-returns-2 c = rw (le-ltb _ _ (c .before .before .if1 .left), ← c .before .less .ensures, lt-ltb _ _ (c .if2 .taken))
+returns-2 c = rw (le-ltb _ _ (c .before .before .if1 .left), ← c .before .less .ensures, lt-ltb _ 4 (c .if2 .taken))
 
 octet-requires : tie.Need-octet-requires
 octet-requires c κs = search needs

@@ -1,3 +1,4 @@
+use Prim.Native.Nat.{_+_}
 use borrow.Author.Tests.{lt-ltb, le-ltb, ne-eqb}
 use Rattle.sets.specs.Set.{badShape}
 use borrow.Author.Needs.{needs}
@@ -23,14 +24,14 @@ add-if3 c = search needs
 
 returns-3 : tie.Need-returns-3
 unfolding badShape
-returns-3 c = rw (ne-eqb _ _ (c .before .before .if1 .left), ← c .before .padded .ensures, lt-ltb _ _ (c .if3 .taken))
+returns-3 c = rw (ne-eqb _ _ (c .before .before .if1 .left), ← c .before .padded .ensures, lt-ltb _ (4 + c .before .padded .result) (c .if3 .taken))
 
 bad-body-requires : tie.Need-bad-body-requires
 bad-body-requires c κs = search needs
 
 returns-4 : tie.Need-returns-4
 unfolding badShape
-returns-4 c = rw (ne-eqb _ _ (c .before .before .before .before .if1 .left), ← c .before .before .before .padded .ensures, le-ltb _ _ (c .before .before .if3 .left), ← c .before .bad-body .ensures, c .if4 .taken)
+returns-4 c = rw (ne-eqb _ _ (c .before .before .before .before .if1 .left), ← c .before .before .before .padded .ensures, le-ltb _ (4 + c .before .before .before .padded .result) (c .before .before .if3 .left), ← c .before .bad-body .ensures, c .if4 .taken)
 
 has-requires : tie.Need-has-requires
 has-requires c κs = search needs
@@ -40,7 +41,7 @@ fail-if-requires-2 c κs = search needs
 
 returns-5 : tie.Need-returns-5
 unfolding badShape
-returns-5 c = rw (ne-eqb _ _ (c .before .before .before .before .before .before .if1 .left), ← c .before .before .before .before .before .padded .ensures, le-ltb _ _ (c .before .before .before .before .if3 .left), ← c .before .before .before .bad-body .ensures, c .before .before .if4 .left, ← c .before .has .ensures) (c .fail-if2 .ensures)
+returns-5 c = rw (ne-eqb _ _ (c .before .before .before .before .before .before .if1 .left), ← c .before .before .before .before .before .padded .ensures, le-ltb _ (4 + c .before .before .before .before .before .padded .result) (c .before .before .before .before .if3 .left), ← c .before .before .before .bad-body .ensures, c .before .before .if4 .left, ← c .before .has .ensures) (c .fail-if2 .ensures)
 
 pub shape-spec : {M : Type 1} → statement M
 shape-spec =

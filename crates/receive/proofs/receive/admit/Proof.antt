@@ -1,3 +1,5 @@
+use mathlib.Core.Path.{_≡_}
+use Rattle.peers.specs.Look.{becomesLive}
 use Rattle.receive.specs.Receive.{admitted}
 use borrow.Author.Needs.{needs}
 use Rattle.receive.proofs.receive.admit.Statement.{statement}
@@ -17,7 +19,9 @@ either-requires c κs = search needs
 
 returns : tie.Need-returns
 unfolding admitted
-returns c = rw (← c .before .before .before .heard-of .ensures, ← c .before .becomes-live .ensures, ← c .before .before .enter .ensures, ← c .either .ensures)
+returns c = let a = c .before .before .before .before .before .args in
+    let e : c .before .becomes-live .result ≡ becomesLive (a .held) (a .proves) = c .before .becomes-live .ensures in
+    rw (← c .before .before .before .heard-of .ensures, ← e, ← c .before .before .enter .ensures, ← c .either .ensures)
 
 pub admit-spec : {M : Type 1} → statement M
 admit-spec =

@@ -1,3 +1,5 @@
+use mathlib.Core.Path.{_≡_}
+use Rattle.receive.specs.Proof.{provesIn}
 use mathlib.Core.Path.{sym, ap, _∙_}
 use denote.Ref.{now}
 use Rattle.receive.proofs.Laws as laws
@@ -115,7 +117,8 @@ unfolding receivedOf tableFacts acceptedBy updatedBy
 returns-5 c = let a = c .before .before .before .before .before .before .before .before .before .before .before .before .before .before .before .before .before .before .before .before .before .before .before .before .before .before .before .args in
     let s = now (a .frame) in
     let g = laws.judged-good (a .p) (a .time) (a .verdict) s _ _ (sym (c .before .before .before .before .before .before .before .before .before .before .before .before .before .before .before .before .before .before .before .before .before .before .before .before .before .judge .ensures) ∙ c .before .before .before .before .before .before .before .before .before .before .before .before .before .before .before .before .before .before .before .before .before .before .before .j .given .1) in
-    rw (g .0, g .2, g .1, ← c .before .before .before .before .before .before .before .before .before .before .before .before .before .before .before .before .before .before .before .same-mi .ensures, check-passed (c .before .before .before .before .before .before .before .before .before .before .before .before .before .before .before .before .before .before .before .same-mi .result) (sym (c .before .before .before .before .before .before .before .before .before .before .before .before .before .before .before .before .before .before .fail-if .ensures) ∙ c .before .before .before .before .before .before .before .before .before .before .before .before .before .before .before .before .enum-told2 .given .1), ← c .before .before .before .before .before .before .before .before .before .before .before .before .before .before .before .aged-to .ensures, ← c .before .before .before .before .before .before .before .before .before .before .before .before .before .look .ensures, ← c .before .before .before .before .before .before .before .before .before .before .before .before .stale .ensures, check-passed (c .before .before .before .before .before .before .before .before .before .before .before .before .stale .result) (sym (c .before .before .before .before .before .before .before .before .before .before .before .fail-if2 .ensures) ∙ c .before .before .before .before .before .before .before .before .before .enum-told4 .given .1), ← c .before .before .before .before .before .before .before .before .no-room .ensures, check-passed (c .before .before .before .before .before .before .before .before .no-room .result) (sym (c .before .before .before .before .before .before .before .fail-if3 .ensures) ∙ c .before .before .before .before .before .enum-told6 .given .1), ← c .before .before .before .before .proves .ensures, ← c .before .before .admit .ensures, ← c .before .take-sak .ensures)
+    let e : c .before .before .before .before .proves .result ≡ provesIn s _ (a .p .mi) (a .p .mn) = c .before .before .before .before .proves .ensures in
+    rw (g .0, g .2, g .1, ← c .before .before .before .before .before .before .before .before .before .before .before .before .before .before .before .before .before .before .before .same-mi .ensures, check-passed (c .before .before .before .before .before .before .before .before .before .before .before .before .before .before .before .before .before .before .before .same-mi .result) (sym (c .before .before .before .before .before .before .before .before .before .before .before .before .before .before .before .before .before .before .fail-if .ensures) ∙ c .before .before .before .before .before .before .before .before .before .before .before .before .before .before .before .before .enum-told2 .given .1), ← c .before .before .before .before .before .before .before .before .before .before .before .before .before .before .before .aged-to .ensures, ← c .before .before .before .before .before .before .before .before .before .before .before .before .before .look .ensures, ← c .before .before .before .before .before .before .before .before .before .before .before .before .stale .ensures, check-passed (c .before .before .before .before .before .before .before .before .before .before .before .before .stale .result) (sym (c .before .before .before .before .before .before .before .before .before .before .before .fail-if2 .ensures) ∙ c .before .before .before .before .before .before .before .before .before .enum-told4 .given .1), ← c .before .before .before .before .before .before .before .before .no-room .ensures, check-passed (c .before .before .before .before .before .before .before .before .no-room .result) (sym (c .before .before .before .before .before .before .before .fail-if3 .ensures) ∙ c .before .before .before .before .before .enum-told6 .given .1), ← e, ← c .before .before .admit .ensures, ← c .before .take-sak .ensures)
 
 pub receive-spec : {M : Type 1} → statement M
 receive-spec =

@@ -14,7 +14,7 @@ pub struct Called {
     pub answer: Answer,
 }
 
-pub(crate) fn done(q: Participant) -> Called
+pub fn done(q: Participant) -> Called
     ensures { λ r. ⌜ r ≡ doneOf q ⌝ }
 {
     let answer = Answer::Done;
@@ -24,7 +24,7 @@ pub(crate) fn done(q: Participant) -> Called
     }
 }
 
-pub(crate) fn refused(p: Participant, n: u8) -> Called
+pub fn refused(p: Participant, n: u8) -> Called
     ensures { λ r. ⌜ r ≡ refusedOf p n ⌝ }
 {
     let answer = Answer::Refused(n);

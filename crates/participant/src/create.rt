@@ -12,7 +12,7 @@ ghost use Rattle.participant.specs.Create.{nobody, badStart, fresh, crea
 ghost use Rattle.participant.specs.Record.{first32};
 
 // What a refused creation answers: a participant with nothing in it.
-fn blank() -> Participant
+pub fn blank() -> Participant
     ensures { λ r. ⌜ r ≡ nobody ⌝ }
 {
     Participant {
@@ -36,7 +36,7 @@ fn blank() -> Participant
     }
 }
 
-fn bad_start(n: usize, capability: u8) -> bool
+pub fn bad_start(n: usize, capability: u8) -> bool
     ensures { λ r. ⌜ r ≡ badStart n capability ⌝ }
 {
     if n == 0 {

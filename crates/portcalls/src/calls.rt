@@ -5,8 +5,10 @@ use crate::state;
 use crate::state::Played;
 use crate::state::State;
 use crate::status;
+use image::write;
 use members::mi;
 use octets::number;
+use page::show;
 use participant::call::Answer;
 use participant::call::Called;
 use participant::create;
@@ -17,6 +19,7 @@ use participant::report;
 use participant::tick;
 use receive::receive::Answer as Heard;
 use send::send::Answer as Sent;
+use writer::mkpdu::Wrote;
 
 // A call that answers done or refused.
 fn called(s: State, r: Called, out: &mut [u8], word: &[u8]) -> Played {
@@ -83,8 +86,9 @@ fn hear(s: State, d: &[u8], out: &mut [u8]) -> Played {
     }
 }
 
-fn room_of(d: &[u8]) -> usize {
-    facts::at_most(number::u16_at(d, 8) as usize, 2048)
+// The room at a place; over 2,048 counts as 2,048.
+fn room_at(d: &[u8], at: usize) -> usize {
+    facts::at_most(number::u16_at(d, at) as usize, 2048)
 }
 
 fn say(s: State, d: &[u8], out: &mut [u8]) -> Played {
@@ -96,7 +100,7 @@ fn say(s: State, d: &[u8], out: &mut [u8]) -> Played {
     }
     let p = s.participant;
     let mut frame = [0u8; 2048];
-    let room = room_of(d);
+    let room = room_at(d, 8);
     if 2048 < room {
         return none(s, out);
     }
@@ -208,6 +212,33 @@ fn ask(s: State, d: &[u8], out: &mut [u8]) -> Played {
     state::same(s, n)
 }
 
+fn save(s: State, d: &[u8], out: &mut [u8]) -> Played {
+    if d.len() != 2 {
+        return state::malformed(s, out);
+    }
+    if !s.held {
+        return none(s, out);
+    }
+    let p = s.participant;
+    let mut image = [0u8; 2048];
+    let room = room_at(d, 0);
+    if 2048 < room {
+        return none(s, out);
+    }
+    match write::write(&mut image[..room], p) {
+        Wrote::Octets(len) => {
+            let n = print::words(out, 0, b"image ");
+            let n = print::octets(out, n, &image, len);
+            let n = print::put(out, n, b'\n');
+            state::same(s, n)
+        }
+        Wrote::Refused(n) => {
+            let n = print::refused(out, 0, n);
+            state::same(s, n)
+        }
+    }
+}
+
 // One record.
 pub(crate) fn play(s: State, op: u8, d: &[u8], out: &mut [u8]) -> Played {
     match op {
@@ -219,6 +250,11 @@ pub(crate) fn play(s: State, op: u8, d: &[u8], out: &mut [u8]) -> Played {
         6 => rename(s, d, out),
         7 => install(s, d, out),
         8 => ask(s, d, out),
+        9 => save(s, d, out),
+        10 => {
+            let n = print::line(out, 0, show::show(d));
+            state::same(s, n)
+        }
         11 => {
             let n = listing::line(out, d);
             state::same(s, n)

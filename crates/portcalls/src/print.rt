@@ -1,6 +1,7 @@
 // Text into a buffer, from a place on; each answers the next place.
 use members::mi::Mi;
 use octets::number;
+use page::line::Line;
 
 pub(crate) fn put(out: &mut [u8], at: usize, x: u8) -> usize {
     if at < out.len() {
@@ -18,6 +19,15 @@ pub(crate) fn words(out: &mut [u8], at: usize, s: &[u8]) -> usize {
         i += 1;
     }
     n
+}
+
+pub(crate) fn line(out: &mut [u8], at: usize, l: Line) -> usize {
+    let text = l.text;
+    let n = l.len;
+    if text.len() < n {
+        return at;
+    }
+    words(out, at, &text[..n])
 }
 
 pub(crate) fn decimal(out: &mut [u8], at: usize, x: u64) -> usize {

@@ -12,6 +12,7 @@ use Rattle.members.specs.Entry.{entryOctets, entriesOf}
 use Rattle.members.specs.declared.entry.Entry.{Entry}
 use Rattle.members.specs.declared.entry.Entries.{Entries}
 use Rattle.octets.proofs.Laws.{length-beOf}
+use Rattle.octets.proofs.Stores.{length-runs}
 use Rattle.members.proofs.Laws.{length-mi, length-entry}
 use Rattle.sets.specs.declared.kinds.KeyUse.{KeyUse}
 use Rattle.sets.specs.declared.kinds.SakUse.{SakUse}
@@ -52,8 +53,7 @@ cknOf-le x = omega (arith, length-take (min (x .size) 32) (x .ckn))
 
 pub length-list : (es : List Entry) → length (listOctets es) ≡ length es * 16
 unfolding listOctets
-length-list [] = refl
-length-list (e ∷ es) = length-append (entryOctets e) (listOctets es) ∙ omega (arith, length-entry e, length-list es)
+length-list es = length-runs entryOctets 16 length-entry es
 
 pub no-list : (t : ℕ) (es : List Entry) → length es ≡ 0 → listSet t es ≡ []
 unfolding listSet

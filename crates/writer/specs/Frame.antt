@@ -6,6 +6,7 @@ use lib.ListN.{length, take, replicate}
 use lib.Dec.{ltb, eqb}
 use Rattle.facts.specs.Facts.{paddedOf}
 use Rattle.octets.specs.Number.{beOf}
+use Rattle.octets.specs.Run.{runsOf}
 use Rattle.members.specs.Mi.{miOctets}
 use Rattle.members.specs.Entry.{entryOctets, entriesOf}
 use Rattle.members.specs.declared.entry.Entry.{Entry}
@@ -52,8 +53,7 @@ setHeader t own len = t ∷ own ∷ len / 256 ∷ len % 256 ∷ []
 
 -- "MI 12, MN 4, repeated"
 unfoldable pub listOctets : List Entry → List ℕ
-listOctets [] = []
-listOctets (e ∷ es) = entryOctets e ++ listOctets es
+listOctets es = runsOf entryOctets es
 
 -- "Live, Potential (each only if not empty, in table order)"
 unfoldable pub listSet : ℕ → List Entry → List ℕ

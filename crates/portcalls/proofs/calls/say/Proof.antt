@@ -23,8 +23,8 @@ same-length-2 c = search needs
 returns-2 : tie.Need-returns-2
 returns-2 c = search needs
 
-room-of-requires : tie.Need-room-of-requires
-room-of-requires c κs = search needs
+room-at-requires : tie.Need-room-at-requires
+room-at-requires c κs = search needs
 
 none-requires-2 : tie.Need-none-requires-2
 none-requires-2 c κs = search needs
@@ -48,7 +48,7 @@ array-borrow-prefix-frame : tie.Need-array-borrow-prefix-frame
 array-borrow-prefix-frame c = search needs
 
 slice-aggregate-send : tie.Need-slice-aggregate-send
-slice-aggregate-send c = sym (length-take-le (c .before .before .before .before .before .room-of .result) (replicate 2048 0) (c .before .before .before .before .if3 .left))
+slice-aggregate-send c = sym (length-take-le (c .before .before .before .before .before .room-at .result) (replicate 2048 0) (c .before .before .before .before .if3 .left))
 
 send-requires : tie.Need-send-requires
 send-requires c κs = search needs
@@ -63,7 +63,7 @@ words-requires : tie.Need-words-requires
 words-requires c κs = search needs
 
 slice-aggregate-octets : tie.Need-slice-aggregate-octets
-slice-aggregate-octets c = sym (length-front (replicate 2048 0) (c .before .before .before .before .before .before .before .before .before .before .before .before .send .last .1 .1 .1 .1 .0) (c .before .before .before .before .before .before .before .before .before .before .before .before .before .before .before .before .before .before .room-of .result) (c .before .before .before .before .before .before .before .before .before .before .before .before .send .kept .1 .1 .1 .1 .0))
+slice-aggregate-octets c = sym (length-front (replicate 2048 0) (c .before .before .before .before .before .before .before .before .before .before .before .before .send .last .1 .1 .1 .1 .0) (c .before .before .before .before .before .before .before .before .before .before .before .before .before .before .before .before .before .before .room-at .result) (c .before .before .before .before .before .before .before .before .before .before .before .before .send .kept .1 .1 .1 .1 .0))
 
 octets-requires : tie.Need-octets-requires
 octets-requires c κs = search needs
@@ -105,7 +105,7 @@ say-spec =
     none-requires
     same-length-2
     returns-2
-    room-of-requires
+    room-at-requires
     none-requires-2
     same-length-3
     returns-3

@@ -6,7 +6,7 @@ use lib.Seq.{sets}
 use lib.ListN.{length, take, length-take}
 use denote.Ref.{now}
 use borrow.Author.Needs.{needs}
-use Rattle.writer.proofs.Stores.{sets-two}
+use Rattle.octets.proofs.Stores.{sets-two}
 use Rattle.writer.proofs.Laws.{length-cknOf, length-basic, length-fixed}
 use Rattle.writer.specs.Frame.{basicOctets, fixedOctets, cknOctets, cknOf}
 use Rattle.writer.proofs.basic.put_basic.Statement.{statement}

@@ -5,7 +5,7 @@ use lib.ListN.{length, replicate}
 use denote.Ref.{now}
 use borrow.Author.Needs.{needs}
 use Rattle.facts.specs.Facts.{paddedOf}
-use Rattle.writer.proofs.Stores.{sets-two}
+use Rattle.octets.proofs.Stores.{sets-two}
 use Rattle.writer.specs.Frame.{cknOctets}
 use Rattle.writer.proofs.basic.put_ckn.Statement.{statement}
 use Rattle.writer.proofs.basic.put_ckn.Tie as tie

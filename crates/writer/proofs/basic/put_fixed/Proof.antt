@@ -11,7 +11,7 @@ use Rattle.octets.specs.Number.{beOf}
 use Rattle.members.specs.Mi.{miOctets}
 use Rattle.octets.proofs.Laws.{length-beOf}
 use Rattle.members.proofs.Laws.{length-mi}
-use Rattle.writer.proofs.Stores.{sets-two}
+use Rattle.octets.proofs.Stores.{sets-two}
 use Rattle.writer.specs.Frame.{senderFlags, fixedOctets}
 use Rattle.writer.proofs.basic.put_fixed.Statement.{statement}
 use Rattle.writer.proofs.basic.put_fixed.Tie as tie

@@ -10,7 +10,8 @@ use borrow.Author.Needs.{needs}
 use Rattle.octets.specs.Run.{written}
 use Rattle.writer.specs.Frame.{headerOctets, frameOf, bodyOctets}
 use Rattle.writer.proofs.Laws.{length-frame, basic-le, entries-le, use-le}
-use Rattle.writer.proofs.Stores.{stored, sets-whole}
+use Rattle.octets.proofs.Stores.{sets-whole}
+use Rattle.writer.proofs.Stores.{stored}
 use Rattle.writer.proofs.frame.write.Statement.{statement}
 use Rattle.writer.proofs.frame.write.Tie as tie
 

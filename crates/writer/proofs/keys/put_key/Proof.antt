@@ -4,7 +4,7 @@ use Rattle.octets.specs.Number.{beOf}
 use Rattle.members.specs.Mi.{miOctets}
 use Rattle.octets.proofs.Laws.{length-beOf}
 use Rattle.members.proofs.Laws.{length-mi}
-use Rattle.writer.proofs.Stores.{sets-three}
+use Rattle.octets.proofs.Stores.{sets-three}
 use Rattle.writer.specs.Frame.{keyOctets}
 use Rattle.writer.proofs.keys.put_key.Statement.{statement}
 use Rattle.writer.proofs.keys.put_key.Tie as tie

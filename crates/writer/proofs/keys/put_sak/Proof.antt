@@ -9,7 +9,7 @@ use borrow.Author.Needs.{needs}
 use Rattle.packed.specs.Sak.{sakOctet}
 use Rattle.octets.specs.Number.{beOf}
 use Rattle.octets.proofs.Laws.{length-beOf}
-use Rattle.writer.proofs.Stores.{sets-three}
+use Rattle.octets.proofs.Stores.{sets-three}
 use Rattle.writer.proofs.Laws.{no-part, some-part, length-sak}
 use Rattle.writer.specs.Frame.{setHeader, sakSet}
 use Rattle.writer.proofs.keys.put_sak.Statement.{statement}

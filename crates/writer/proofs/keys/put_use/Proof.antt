@@ -9,7 +9,7 @@ use borrow.Author.Needs.{needs}
 use Rattle.packed.specs.Used.{usedOctet}
 use Rattle.packed.specs.declared.used.KeyFlags.{KeyFlags}
 use Rattle.writer.specs.Frame.{keyFlags, keyOctets, setHeader, useSet}
-use Rattle.writer.proofs.Stores.{sets-three}
+use Rattle.octets.proofs.Stores.{sets-three}
 use Rattle.writer.proofs.Laws.{no-part, some-part, length-key, length-use}
 use Rattle.writer.proofs.keys.put_use.Statement.{statement}
 use Rattle.writer.proofs.keys.put_use.Tie as tie

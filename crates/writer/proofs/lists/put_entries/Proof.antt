@@ -8,7 +8,9 @@ use lib.ListN.{length, drop, take, drop-of-length-le, length-take}
 use lib.Seq.{sets}
 use borrow.Author.Needs.{needs}
 use Rattle.members.specs.declared.entry.Entry.{Entry}
-use Rattle.writer.proofs.Stores.{entries-step}
+use Rattle.octets.proofs.Stores.{runs-step}
+use Rattle.members.specs.Entry.{entryOctets}
+use Rattle.members.proofs.Laws.{length-entry}
 use Rattle.writer.specs.Frame.{listOctets}
 use Rattle.writer.proofs.lists.put_entries.Statement.{statement}
 use Rattle.writer.proofs.lists.put_entries.Tie as tie
@@ -48,6 +50,7 @@ loop-less : tie.Need-loop-less Inv-loop μ-loop
 loop-less c = search needs
 
 loop-again : tie.Need-loop-again Inv-loop μ-loop
+unfolding listOctets
 loop-again c =
     let put = c .before .before in
     let turn = put .before .before .before in
@@ -56,7 +59,7 @@ loop-again c =
     let e : length (a .t3) ≡ 16 = search needs in (
       omega arith,
       search needs,
-      entries-step (l .out) (put .put-entry .last .0) (a .at) (l .i) (a .n) (a .t3) zero-entry (turn .loop-test .taken) (omega arith) (put .put-entry .ensures) ∙ l .inv .2,
+      runs-step entryOctets 16 length-entry (l .out) (put .put-entry .last .0) (a .at) (l .i) (a .n) (a .t3) zero-entry (turn .loop-test .taken) (omega arith) (put .put-entry .ensures) ∙ l .inv .2,
     )
 
 same-length : tie.Need-same-length Inv-loop μ-loop

@@ -8,7 +8,7 @@ use lib.Seq.{sets}
 use denote.Ref.{now}
 use borrow.Author.Needs.{needs}
 use Rattle.members.specs.Entry.{entriesOf}
-use Rattle.writer.proofs.Stores.{sets-two}
+use Rattle.octets.proofs.Stores.{sets-two}
 use Rattle.writer.proofs.Laws.{length-entries, no-list, some-list, length-some, unmapped}
 use Rattle.writer.specs.Frame.{setHeader, listOctets}
 use Rattle.writer.proofs.lists.put_list.Statement.{statement}

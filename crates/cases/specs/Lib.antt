@@ -1,0 +1,4 @@
+pub mod Row
+pub mod Setting
+pub mod Image
+pub mod Cases

@@ -1,0 +1,1 @@
+// The bench cases: one table under one theorem about the definitions, no code.

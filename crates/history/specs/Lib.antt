@@ -1,0 +1,12 @@
+pub mod Calls
+pub mod Steps
+pub mod Becomes
+pub mod Splits
+pub mod Clock
+pub mod Refused
+pub mod Table
+pub mod Recent
+pub mod Proving
+pub mod Live
+pub mod Keys
+pub mod Worked

@@ -1,0 +1,34 @@
+-- "Port image": the octets of a participant's image.
+use Prim.Native.Nat.{ℕ, _+_, _*_}
+use mathlib.Core.List.{List, [], _∷_, _++_}
+use lib.ListN.{length}
+use Rattle.packed.specs.Bit.{bit}
+use Rattle.peers.specs.Table.{entries}
+use Rattle.participant.specs.declared.record.Participant.{Participant}
+use Rattle.layout.specs.Layout.{Part, headOf, entryOf, laidOf}
+use Rattle.records.specs.Own.{ownOctets}
+use Rattle.records.specs.Peer.{peersOctets}
+use Rattle.records.specs.Key.{slotOctets}
+
+-- Kind 1: one own record.
+unfoldable pub ownPart : Participant → Part
+ownPart p = record { records = 1; body = ownOctets p }
+
+-- Kind 2: the peers, in table order.
+unfoldable pub peersPart : Participant → Part
+peersPart p = record { records = length (entries (p .table)); body = peersOctets (entries (p .table)) }
+
+-- Kind 3: the keys, "latest first".
+unfoldable pub keysPart : Participant → Part
+keysPart p =
+    record {
+      records = bit (p .latest .held) + bit (p .old .held);
+      body = slotOctets (p .latest) ++ slotOctets (p .old);
+    }
+
+-- The contents table of an image with n peers and k keys.
+unfoldable pub contentsFor : ℕ → ℕ → List ℕ
+contentsFor n k = headOf 3 ++ (entryOf 1 1 28 ++ (entryOf 2 n 144 ++ entryOf 3 k (144 + n * 44)))
+
+unfoldable pub imageOf : Participant → List ℕ
+imageOf p = laidOf (ownPart p ∷ peersPart p ∷ keysPart p ∷ [])

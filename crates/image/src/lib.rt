@@ -1,0 +1,3 @@
+// The saved port image of a participant: its rules, written and read.
+pub mod read;
+pub mod write;

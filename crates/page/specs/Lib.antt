@@ -1,0 +1,4 @@
+pub mod Text
+pub mod Status
+pub mod Show
+pub mod Cases

@@ -1,0 +1,4 @@
+// The line of the port page.
+pub mod line;
+pub mod show;
+pub mod status;

@@ -1,0 +1,1 @@
+// Each participant that a history reaches is well formed: theorems about the definitions, no code.

@@ -1,0 +1,3 @@
+pub mod Own
+pub mod Peer
+pub mod Key

@@ -1,0 +1,5 @@
+pub mod Fit
+pub mod Cut
+pub mod Own
+pub mod Peer
+pub mod Key

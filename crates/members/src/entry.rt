@@ -3,6 +3,8 @@ use crate::mi;
 use crate::mi::Mi;
 use octets::number;
 ghost use mathlib.Core.Path.{_≡_};
+ghost use Prim.Native.Nat.{_+_, _≤_};
+ghost use lib.ListN.{length};
 ghost use lib.Seq.{sets};
 ghost use Rattle.members.specs.Entry.{cutAt, entryAt, entryOctets};
 
@@ -21,23 +23,43 @@ pub struct Entries {
 
 // The 16 octets from `at`, copied out.
 fn copied(s: &[u8], at: usize) -> [u8; 16]
+    requires { ⌜ at + 16 ≤ length (now s) ⌝ }
     ensures { λ r. ⌜ r ≡ cutAt (now (s .entry)) at 16 ⌝ }
 {
     let mut e = [0u8; 16];
-    if s.len() <= at {
-        return e;
-    }
     let mut i = 0;
     while i < 16 {
-        e[i] = number::octet(s, at + i);
+        e[i] = s[at + i];
         i += 1;
     }
     e
 }
 
+// An entry that the slice ends within.
+fn across(s: &[u8], at: usize) -> Entry
+    ensures { λ r. ⌜ r ≡ entryAt (now (s .entry)) at ⌝ }
+{
+    if s.len() <= at {
+        return Entry {
+            mi: Mi { hi: 0, lo: 0 },
+            mn: 0,
+        };
+    }
+    Entry {
+        mi: mi::mi_at(s, at),
+        mn: number::u32_at(s, at + 12),
+    }
+}
+
 pub fn entry_at(s: &[u8], at: usize) -> Entry
     ensures { λ r. ⌜ r ≡ entryAt (now (s .entry)) at ⌝ }
 {
+    if s.len() < 16 {
+        return across(s, at);
+    }
+    if s.len() - 16 < at {
+        return across(s, at);
+    }
     let e = copied(s, at);
     Entry {
         mi: mi::mi_at(&e, 0),

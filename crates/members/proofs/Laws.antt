@@ -5,7 +5,7 @@ use mathlib.Core.List.{List, [], _∷_, _++_, append-assoc}
 use native.Mathlib.Numerals.{add-one}
 use native.Mathlib.Omega.{arith}
 use native.Mathlib.Nat.{add-zero}
-use lib.ListN.{length, getD, set, replicate, length-append, replicate-append-replicate, List·getD-eq-default, List·getD-append}
+use lib.ListN.{length, getD, set, replicate, length-append, List·getD-append}
 use lib.Seq.{set-at, getD-at}
 use mathlib.Core.Bool.{Bool, true, false}
 use borrow.Author.Tests.{ltb-true, ltb-false}
@@ -49,15 +49,6 @@ getD-cut s at (suc n) i h = go (ltb i n) refl (getD-cut s at n i)
         let ge : n ≤ i = ltb-false i n e in
         let m : i ≡ n = omega arith in
         rw m (getD-at (cutAt s at n) (getD s (at + n) 0) [] 0 n (length-cut s at n))
-
--- past the end only zeros are copied out
-pub cut-out : (s : List ℕ) (at n : ℕ) → length s ≤ at → cutAt s at n ≡ replicate n 0
-unfolding cutAt
-cut-out s at zero h = refl
-cut-out s at (suc n) h =
-    let past : length s ≤ at + n = omega arith in
-    let e : n + 1 ≡ suc n = omega arith in
-    rw (cut-out s at n h, List·getD-eq-default s 0 past) (replicate-append-replicate n 1 0 ∙ ap (λ (k : ℕ). replicate k 0) e)
 
 -- a number read within what was copied out
 pub be-cut : (s : List ℕ) (at n k m : ℕ) → k + m ≤ n → beAt (cutAt s at n) k m ≡ beAt s (at + k) m

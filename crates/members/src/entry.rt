@@ -6,6 +6,7 @@ ghost use mathlib.Core.Path.{_≡_};
 ghost use Prim.Native.Nat.{_+_, _≤_};
 ghost use lib.ListN.{length};
 ghost use lib.Seq.{sets};
+ghost use Rattle.members.specs.Mi.{miAt};
 ghost use Rattle.members.specs.Entry.{cutAt, entryAt, entryOctets};
 
 #[repr(C)]
@@ -51,6 +52,18 @@ fn across(s: &[u8], at: usize) -> Entry
     }
 }
 
+// The identifier of an entry that was copied out: three loads, where the length is known.
+fn mi_of(e: &[u8]) -> Mi
+    ensures { λ r. ⌜ r ≡ miAt (now (e .entry)) 0 ⌝ }
+{
+    let high = number::u32_at(e, 0) as u64;
+    let low = number::u32_at(e, 4) as u64;
+    Mi {
+        hi: high * 4294967296 + low,
+        lo: number::u32_at(e, 8),
+    }
+}
+
 pub fn entry_at(s: &[u8], at: usize) -> Entry
     ensures { λ r. ⌜ r ≡ entryAt (now (s .entry)) at ⌝ }
 {
@@ -62,7 +75,7 @@ pub fn entry_at(s: &[u8], at: usize) -> Entry
     }
     let e = copied(s, at);
     Entry {
-        mi: mi::mi_at(&e, 0),
+        mi: mi_of(&e),
         mn: number::u32_at(&e, 12),
     }
 }

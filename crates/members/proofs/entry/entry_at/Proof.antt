@@ -29,11 +29,11 @@ returns-2 c = search needs
 copied-requires : tie.Need-copied-requires
 copied-requires c κs = search needs
 
-slice-aggregate-mi-at : tie.Need-slice-aggregate-mi-at
-slice-aggregate-mi-at c = search needs
+slice-aggregate-mi-of : tie.Need-slice-aggregate-mi-of
+slice-aggregate-mi-of c = search needs
 
-mi-at-requires : tie.Need-mi-at-requires
-mi-at-requires c κs = search needs
+mi-of-requires : tie.Need-mi-of-requires
+mi-of-requires c κs = search needs
 
 slice-aggregate-u32-at : tie.Need-slice-aggregate-u32-at
 slice-aggregate-u32-at c = search needs
@@ -45,7 +45,7 @@ returns-3 : tie.Need-returns-3
 unfolding entryAt
 returns-3 c = let s = now (c .before .before .before .before .before .before .before .before .args .s) in
     let at = c .before .before .before .before .before .before .before .before .args .at in
-    let mi = c .before .before .mi-at .ensures ∙ ap (λ (k : List ℕ). miAt k 0) (c .before .before .before .before .copied .ensures) ∙ mi-cut s at in
+    let mi = c .before .before .mi-of .ensures ∙ ap (λ (k : List ℕ). miAt k 0) (c .before .before .before .before .copied .ensures) ∙ mi-cut s at in
     let mn = c .u32-at .ensures ∙ ap (λ (k : List ℕ). beAt k 12 4) (c .before .before .before .before .copied .ensures) ∙ be-cut s at 16 12 4 (lit≤ tt) in
     λ i. record { mi = mi i; mn = mn i }
 
@@ -59,8 +59,8 @@ entry-at-spec =
     across-requires-2
     returns-2
     copied-requires
-    slice-aggregate-mi-at
-    mi-at-requires
+    slice-aggregate-mi-of
+    mi-of-requires
     slice-aggregate-u32-at
     u32-at-requires
     returns-3)

@@ -110,6 +110,7 @@ fn with_table(p: Participant, table: Table, clock: u64, mark: bool) -> Participa
 }
 
 // The table is copied once, gone through once and changed in one place; one in which something expires is left to `late`.
+// What is passed on whole (`aside`, `s`) is a copy that only that way has: the other ways then need none (docs/COST.md).
 pub fn receive(p: Participant, time: u64, verdict: bool, frame: &[u8]) -> Received
     ensures { λ r. ⌜ r ≡ receivedOf p time verdict (now (frame .entry)) ⌝ }
 {

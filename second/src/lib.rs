@@ -1,6 +1,7 @@
 //! A second implementation of the MKA participant, for comparison.
 
 pub mod compare;
+pub mod cost;
 pub mod frame;
 pub mod gen;
 pub mod image;

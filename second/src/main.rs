@@ -5,6 +5,7 @@ use std::ops::Range;
 use std::process::ExitCode;
 
 use second::compare::{compare, count_reach, mutants, Runs};
+use second::cost::cost;
 use second::gen::{generate, Kind};
 use second::octets::{hex, unhex};
 use second::reach::Reach;
@@ -16,6 +17,7 @@ const USAGE: &str = "usage:
   second show < image                    the line of portshow
   second trace < script                  each record in hex, and its line
   second pack < hex                      octets from hex text
+  second cost < script                   the last call of a script of portcost, played many times
   second gen --seed N --calls K --kind KIND
   second reach --seeds A..B --calls K [--kinds KIND,..]
   second mutants --seeds A..B --calls K [--kinds KIND,..]
@@ -122,6 +124,7 @@ fn command(name: &str, args: &Args) -> Result<bool, String> {
             let plain: String = text.lines().map(|l| l.split('#').next().unwrap_or("")).collect();
             output(&unhex(&plain).ok_or("the input isn't hex")?)
         }
+        "cost" => lines([format!("check {}", cost(&input()?).ok_or("the input is no script of portcost")?)]),
         "gen" => {
             let kind = *args.kinds()?.first().ok_or("--kind is missing")?;
             output(&generate(args.number("--seed")?, args.number("--calls")? as usize, kind))

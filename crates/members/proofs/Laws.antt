@@ -1,11 +1,11 @@
 -- Laws of member identifiers and list entries.
 use Prim.Native.Nat.{ℕ, zero, suc, _+_, _-_, _^_, _≤_, _<_}
-use mathlib.Core.Path.{_≡_, refl, ap, _∙_}
+use mathlib.Core.Path.{_≡_, refl, ap, sym, _∙_}
 use mathlib.Core.List.{List, [], _∷_, _++_, append-assoc}
 use native.Mathlib.Numerals.{add-one}
 use native.Mathlib.Omega.{arith}
 use native.Mathlib.Nat.{add-zero}
-use lib.ListN.{length, getD, set, replicate, length-append, replicate-append-replicate, List·getD-eq-default, List·getD-append}
+use lib.ListN.{length, getD, set, replicate, length-append, List·getD-append}
 use lib.Seq.{set-at, getD-at}
 use mathlib.Core.Bool.{Bool, true, false}
 use borrow.Author.Tests.{ltb-true, ltb-false}
@@ -15,7 +15,7 @@ use Rattle.members.specs.Mi.{miAt, miOctets}
 use Rattle.members.specs.Entry.{cutAt, entryAt, entryOctets}
 use Rattle.members.specs.declared.mi.Mi.{Mi}
 use Rattle.members.specs.declared.entry.Entry.{Entry}
-use Rattle.octets.proofs.Laws.{length-beOf}
+use Rattle.octets.proofs.Laws.{length-beOf, beAt-out}
 use Rattle.octets.proofs.Fields.{Stands, first, second, number-stands}
 
 pub length-mi : (m : Mi) → length (miOctets m) ≡ 12
@@ -50,15 +50,6 @@ getD-cut s at (suc n) i h = go (ltb i n) refl (getD-cut s at n i)
         let m : i ≡ n = omega arith in
         rw m (getD-at (cutAt s at n) (getD s (at + n) 0) [] 0 n (length-cut s at n))
 
--- past the end only zeros are copied out
-pub cut-out : (s : List ℕ) (at n : ℕ) → length s ≤ at → cutAt s at n ≡ replicate n 0
-unfolding cutAt
-cut-out s at zero h = refl
-cut-out s at (suc n) h =
-    let past : length s ≤ at + n = omega arith in
-    let e : n + 1 ≡ suc n = omega arith in
-    rw (cut-out s at n h, List·getD-eq-default s 0 past) (replicate-append-replicate n 1 0 ∙ ap (λ (k : ℕ). replicate k 0) e)
-
 -- a number read within what was copied out
 pub be-cut : (s : List ℕ) (at n k m : ℕ) → k + m ≤ n → beAt (cutAt s at n) k m ≡ beAt s (at + k) m
 unfolding beAt
@@ -76,6 +67,17 @@ mi-cut s at =
     let hi = be-cut s at 16 0 8 (lit≤ tt) ∙ ap (λ (k : ℕ). beAt s k 8) (add-zero at) in
     let lo = be-cut s at 16 8 4 (lit≤ tt) in
     λ i. record { hi = hi i; lo = lo i }
+
+-- past the end an entry is all zeros
+pub entry-out : (s : List ℕ) (at : ℕ) → length s ≤ at → record { mi = record { hi = 0; lo = 0 }; mn = 0 } ≡ entryAt s at
+unfolding entryAt miAt
+entry-out s at h =
+    let far : length s ≤ at + 8 = omega arith in
+    let farther : length s ≤ at + 12 = omega arith in
+    λ i. record {
+      mi = record { hi = sym (beAt-out s at 8 h) i; lo = sym (beAt-out s (at + 8) 4 far) i };
+      mn = sym (beAt-out s (at + 12) 4 farther) i;
+    }
 
 pub length-entry : (e : Entry) → length (entryOctets e) ≡ 16
 unfolding entryOctets

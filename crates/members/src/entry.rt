@@ -3,7 +3,10 @@ use crate::mi;
 use crate::mi::Mi;
 use octets::number;
 ghost use mathlib.Core.Path.{_≡_};
+ghost use Prim.Native.Nat.{_+_, _≤_};
+ghost use lib.ListN.{length};
 ghost use lib.Seq.{sets};
+ghost use Rattle.members.specs.Mi.{miAt};
 ghost use Rattle.members.specs.Entry.{cutAt, entryAt, entryOctets};
 
 #[repr(C)]
@@ -21,26 +24,58 @@ pub struct Entries {
 
 // The 16 octets from `at`, copied out.
 fn copied(s: &[u8], at: usize) -> [u8; 16]
+    requires { ⌜ at + 16 ≤ length (now s) ⌝ }
     ensures { λ r. ⌜ r ≡ cutAt (now (s .entry)) at 16 ⌝ }
 {
     let mut e = [0u8; 16];
-    if s.len() <= at {
-        return e;
-    }
     let mut i = 0;
     while i < 16 {
-        e[i] = number::octet(s, at + i);
+        e[i] = s[at + i];
         i += 1;
     }
     e
 }
 
+// An entry that the slice ends within.
+fn across(s: &[u8], at: usize) -> Entry
+    ensures { λ r. ⌜ r ≡ entryAt (now (s .entry)) at ⌝ }
+{
+    if s.len() <= at {
+        return Entry {
+            mi: Mi { hi: 0, lo: 0 },
+            mn: 0,
+        };
+    }
+    Entry {
+        mi: mi::mi_at(s, at),
+        mn: number::u32_at(s, at + 12),
+    }
+}
+
+// The identifier of an entry that was copied out: three loads, where the length is known.
+fn mi_of(e: &[u8]) -> Mi
+    ensures { λ r. ⌜ r ≡ miAt (now (e .entry)) 0 ⌝ }
+{
+    let high = number::u32_at(e, 0) as u64;
+    let low = number::u32_at(e, 4) as u64;
+    Mi {
+        hi: high * 4294967296 + low,
+        lo: number::u32_at(e, 8),
+    }
+}
+
 pub fn entry_at(s: &[u8], at: usize) -> Entry
     ensures { λ r. ⌜ r ≡ entryAt (now (s .entry)) at ⌝ }
 {
+    if s.len() < 16 {
+        return across(s, at);
+    }
+    if s.len() - 16 < at {
+        return across(s, at);
+    }
     let e = copied(s, at);
     Entry {
-        mi: mi::mi_at(&e, 0),
+        mi: mi_of(&e),
         mn: number::u32_at(&e, 12),
     }
 }

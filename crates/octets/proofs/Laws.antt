@@ -42,6 +42,27 @@ be-turn s at i n v le lt e h =
     let le′ : i ≤ 7 = omega arith in
     omega (arith, beAt-below s at i 7 le′ h, h (at + i) .fits)
 
+-- eight octets are two numbers of four
+pub beAt-halves : (s : List ℕ) (at : ℕ) → beAt s at 8 ≡ beAt s at 4 * 4294967296 + beAt s (at + 4) 4
+beAt-halves s at =
+    let e : (k : ℕ) → getD s (at + 4 + k) 0 ≡ getD s (at + (4 + k)) 0 = λ k. ap (λ (j : ℕ). getD s j 0) (add-assoc at 4 k) in
+    omega (
+      arith,
+      beAt-next s at 4,
+      beAt-next s at 5,
+      beAt-next s at 6,
+      beAt-next s at 7,
+      beAt-zero s (at + 4),
+      beAt-next s (at + 4) 0,
+      beAt-next s (at + 4) 1,
+      beAt-next s (at + 4) 2,
+      beAt-next s (at + 4) 3,
+      e 0,
+      e 1,
+      e 2,
+      e 3,
+    )
+
 -- past the end the number is 0
 pub beAt-out : (s : List ℕ) (at n : ℕ) → length s ≤ at → beAt s at n ≡ 0
 unfolding beAt

@@ -8,3 +8,4 @@ pub mod Proving
 pub mod Listing
 pub mod Order
 pub mod Least
+pub mod InPlace

@@ -1,5 +1,5 @@
 -- "An accepted frame enters its MI (at the end of the table) or updates it: MN, SCI, priority, flags, time accepted."
-use Prim.Native.Nat.{ℕ}
+use Prim.Native.Nat.{ℕ, _+_}
 use mathlib.Core.Bool.{Bool, cond, _||_}
 use mathlib.Core.List.{List, [], _∷_}
 use lib.ListN.{set}
@@ -9,7 +9,8 @@ use Rattle.peers.specs.declared.table.Table.{Table}
 use Rattle.peers.specs.declared.look.Held.{Held}
 use Rattle.peers.specs.declared.look.Held.the-variants.{At, Missing}
 use Rattle.peers.specs.declared.enter.Heard.{Heard}
-use Rattle.peers.specs.Table.{blankPeer, pushed}
+use lib.Dec.{ltb}
+use Rattle.peers.specs.Table.{room, blankPeer, pushed}
 use Rattle.peers.specs.Look.{heldIn}
 
 -- "Proof sets the proof time; a frame without one leaves it."
@@ -39,6 +40,15 @@ replaced t at p = record { peers = set (t .peers) at p; count = t .count }
 unfoldable pub enteredAt : Held → Heard → Bool → ℕ → Table → Table
 enteredAt (At i p) h proves time t = replaced t i (updated p h proves time)
 enteredAt Missing h proves time t = pushed t (updated blankPeer h proves time)
+
+-- The same as one store: where the entry goes, and how many there are then.
+abbrev pub placeFor : Held → ℕ → ℕ
+placeFor (At i p) count = i
+placeFor Missing count = count
+
+abbrev pub grownBy : Held → ℕ → ℕ
+grownBy (At i p) count = count
+grownBy Missing count = cond (ltb count room) (count + 1) count
 
 unfoldable pub entered : Heard → Bool → ℕ → Table → Table
 entered h proves time t = enteredAt (heldIn (h .mi) t) h proves time t

@@ -1,8 +1,8 @@
 -- "Each timed call first expires": what a time leaves of the table.
 use Prim.Native.Nat.{ℕ, _-_}
-use mathlib.Core.Bool.{Bool, false, cond, not, _&&_}
+use mathlib.Core.Bool.{Bool, false, cond, not, _&&_, _||_}
 use mathlib.Core.List.{List, map}
-use lib.Dec.{ltb}
+use lib.Dec.{ltb, leb}
 use Rattle.peers.specs.declared.table.Peer.{Peer}
 use Rattle.peers.specs.declared.table.Table.{Table}
 use Rattle.peers.specs.Lists.{those, every}
@@ -51,6 +51,13 @@ stillPeer time p = freshPeer time p && not (lapsed time p)
 
 abbrev pub steadyIn : ℕ → List Peer → Bool
 steadyIn time l = every (stillPeer time) l
+
+-- The same by one comparison each: the earliest time that is less than a life time old, and nothing of an entry is from before it.
+abbrev pub oldestAt : ℕ → ℕ
+oldestAt time = time - 5999
+
+abbrev pub stillFrom : ℕ → Peer → Bool
+stillFrom from p = leb from (p .accepted) && (not (p .proven) || leb from (p .proof))
 
 unfoldable pub rebuilt : ℕ → Table → Table
 rebuilt time t = tableOf (agedList time (entries t))

@@ -19,6 +19,13 @@ seek m i (p ∷ ps) = cond (miSame m (p .mi)) (At i p) (seek m (i + 1) ps)
 unfoldable pub heldIn : Mi → Table → Held
 heldIn m t = seek m 0 (entries t)
 
+-- The same entry by entry: its place among n entries, n where none was found yet.
+abbrev pub firstAt : ℕ → ℕ → ℕ → Mi → Peer → ℕ
+firstAt at n i m p = cond (eqb at n) (cond (miSame m (p .mi)) i at) at
+
+abbrev pub foundAt : ℕ → ℕ → Peer → Held
+foundAt at n p = cond (eqb at n) Missing (At at p)
+
 abbrev pub notAbove : Held → ℕ → Bool
 notAbove (At i p) mn = leb mn (p .mn)
 notAbove Missing mn = false

@@ -6,7 +6,8 @@ use crate::table::ROOM;
 use crate::table::Table;
 use members::mi::Mi;
 ghost use mathlib.Core.Path.{_≡_};
-ghost use Rattle.peers.specs.Enter.{proofAfter, updated, replaced, enteredAt};
+ghost use Rattle.peers.specs.Enter.{proofAfter, updated, replaced, enteredAt, placeFor, grownBy};
+ghost use Rattle.peers.specs.Kept.{heldPeer};
 
 // What a frame says of its sender.
 #[repr(C)]
@@ -55,6 +56,41 @@ fn replace(t: Table, at: usize, p: Peer) -> Table
     let mut next = t;
     next.peers[at] = p;
     next
+}
+
+// The entry that a frame makes of what looking its sender up gave.
+pub fn anew(held: Held, h: Heard, proves: bool, time: u64) -> Peer
+    ensures { λ r. ⌜ r ≡ updated (heldPeer held) h proves time ⌝ }
+{
+    match held {
+        Held::At(_, p) => update(p, h, proves, time),
+        Held::Missing => update(table::blank(), h, proves, time),
+    }
+}
+
+// Where that entry goes: to its place, or to the end of `count` entries.
+pub fn place(held: Held, count: usize) -> usize
+    ensures { λ r. ⌜ r ≡ placeFor held count ⌝ }
+{
+    match held {
+        Held::At(i, _) => i,
+        Held::Missing => count,
+    }
+}
+
+// How many entries there are then, of at most 16.
+pub fn grown(held: Held, count: usize) -> usize
+    ensures { λ r. ⌜ r ≡ grownBy held count ⌝ }
+{
+    match held {
+        Held::At(_, _) => count,
+        Held::Missing => {
+            if count < ROOM {
+                return count + 1;
+            }
+            count
+        }
+    }
 }
 
 // `held` is what looking the sender up gave. A full table without it stays as it is.

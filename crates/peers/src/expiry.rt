@@ -5,7 +5,7 @@ use crate::table::ROOM;
 use crate::table::Table;
 ghost use mathlib.Core.Path.{_≡_};
 ghost use Rattle.peers.specs.Table.{entries};
-ghost use Rattle.peers.specs.Expiry.{freshAt, lapsed, agedPeer, stillPeer, steadyIn, rebuilt, expired};
+ghost use Rattle.peers.specs.Expiry.{freshAt, lapsed, agedPeer, stillPeer, steadyIn, rebuilt, expired, oldestAt, stillFrom};
 
 // The life time in milliseconds.
 pub const LIFE: u64 = 6000;
@@ -51,6 +51,29 @@ fn still(p: Peer, time: u64) -> bool
         return !lapse(p, time);
     }
     false
+}
+
+// The earliest time that is less than a life time before `time`.
+pub fn oldest(time: u64) -> u64
+    ensures { λ r. ⌜ r ≡ oldestAt time ⌝ }
+{
+    if time < LIFE {
+        return 0;
+    }
+    time - (LIFE - 1)
+}
+
+// Whether nothing of the entry is from before `from`.
+pub fn still_from(p: Peer, from: u64) -> bool
+    ensures { λ r. ⌜ r ≡ stillFrom from p ⌝ }
+{
+    if p.accepted < from {
+        return false;
+    }
+    if p.proven {
+        return from <= p.proof;
+    }
+    true
 }
 
 fn steady(t: Table, time: u64) -> bool

@@ -5,7 +5,7 @@ use crate::table::Table;
 use members::mi;
 use members::mi::Mi;
 ghost use mathlib.Core.Path.{_≡_};
-ghost use Rattle.peers.specs.Look.{heldIn, staleFor, noRoomFor, liveFor, potentialFor, becomesLive};
+ghost use Rattle.peers.specs.Look.{heldIn, firstAt, foundAt, staleFor, noRoomFor, liveFor, potentialFor, becomesLive};
 
 // The entry of an identifier and its place, if there is one.
 pub enum Held {
@@ -29,6 +29,29 @@ pub fn look(t: Table, m: Mi) -> Held
         i += 1;
     }
     Held::Missing
+}
+
+// The place of the first entry of an identifier, n where there is none: one more entry is looked at, that at `i`.
+pub fn first(at: usize, n: usize, i: usize, m: Mi, p: Peer) -> usize
+    ensures { λ r. ⌜ r ≡ firstAt at n i m p ⌝ }
+{
+    if at == n {
+        let q = p.mi;
+        if mi::same_mi(m, q) {
+            return i;
+        }
+    }
+    at
+}
+
+// What the place that `first` came to tells, where `p` is the entry there.
+pub fn found(at: usize, n: usize, p: Peer) -> Held
+    ensures { λ r. ⌜ r ≡ foundAt at n p ⌝ }
+{
+    if at == n {
+        return Held::Missing;
+    }
+    Held::At(at, p)
 }
 
 // Fact 11, of a frame with this message number.

@@ -14,12 +14,13 @@ use Rattle.members.specs.declared.entry.Entry.{Entry}
 use Rattle.frame.specs.Basic.{bodyLen, basicLen, fact2, fact3, fact4, fact5, basicAnswer, basicOf}
 use Rattle.frame.specs.declared.basic.Basic.{Basic}
 use Rattle.frame.specs.declared.basic.BasicRead.the-variants as read
+use Rattle.sets.specs.declared.once.Spot.{Spot}
 use Rattle.sets.specs.declared.once.Places.{Places}
-use Rattle.walk.specs.List.{listAt, entriesIn, seek}
+use Rattle.walk.specs.List.{entriesFrom, listAt, entriesIn, seek}
 use Rattle.walk.specs.declared.list.Found.the-variants.{At, Nothing}
 use Rattle.walk.proofs.Lists.{length-entries}
 use Rattle.participant.specs.declared.record.Participant.{Participant}
-use Rattle.receive.specs.Proof.{isRecent, anyRecent}
+use Rattle.receive.specs.Proof.{isRecent, anyRecent, namedIn}
 use Rattle.receive.specs.Judge.{basicIn, walkIn, placesIn, frameFacts, judgedOf}
 use Rattle.receive.specs.Receive.{tableFacts, receiveFacts}
 use Rattle.receive.specs.declared.judge.Judged.the-variants as judged
@@ -71,6 +72,15 @@ cond-length false l n h = h
 pub entries-few : (s : List ℕ) (place len : ℕ) → length (entriesIn s place len) ≤ len / 16
 unfolding entriesIn listAt
 entries-few s place len = cond-length (ltb (length s) (place + (4 + len))) _ (len / 16) (let e = length-entries (len / 16) s (place + 4) in omega arith)
+
+-- a list without octets names nobody
+pub named-empty : (s : List ℕ) (list : Spot) (own : Mi) (sent : ℕ) → list .len ≡ 0 → false ≡ namedIn s list own sent
+unfolding namedIn entriesIn listAt entriesFrom
+named-empty s list own sent e = rw e (go (ltb (length s) (list .place + (4 + 0))))
+  where
+    go : (t : Bool) → false ≡ anyRecent own sent (cond t [] [])
+    go true = refl
+    go false = refl
 
 -- ---- facts 2 to 5
 

@@ -70,6 +70,12 @@ updatedBy p time s b w = admitted (agedTo p time) (heldAt p time b) b (provesIn 
 unfoldable pub acceptedBy : Participant → ℕ → List ℕ → Basic → Places → Keyed
 acceptedBy p time s b w = keyedOf (updatedBy p time s b w) s (b .mi) (w .sak)
 
+-- facts 11 and 12, and what the frame makes of the participant where none holds
+unfoldable pub settledBy : Participant → ℕ → List ℕ → Basic → Places → Received
+settledBy p time s b w =
+    let n = firstOf ((11, staleFor (heldAt p time b) (b .mn)) ∷ (12, noRoomFor (heldAt p time b) (agedTo p time .table)) ∷ []) in
+    cond (eqb n 0) (acceptedOf (acceptedBy p time s b w)) (refusedOf p n)
+
 unfoldable pub receivedOf : Participant → ℕ → Bool → List ℕ → Received
 receivedOf p time verdict s =
     let n = firstOf (receiveFacts p time verdict s) in

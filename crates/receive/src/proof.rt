@@ -23,8 +23,8 @@ pub fn recent(mn: u32, sent: u32) -> bool
     sent - mn < LAST
 }
 
-// Whether a list has an entry with our identifier and a recent number.
-fn named(frame: &[u8], list: Spot, own: Mi, sent: u32) -> bool
+// The list gone through for entries with our identifier and a recent number.
+fn searched(frame: &[u8], list: Spot, own: Mi, sent: u32) -> bool
     ensures { λ r. ⌜ r ≡ namedIn (now (frame .entry)) list own sent ⌝ }
 {
     let place = list.place;
@@ -39,6 +39,16 @@ fn named(frame: &[u8], list: Spot, own: Mi, sent: u32) -> bool
         }
         i = j + 1;
     }
+}
+
+// Whether a list has an entry with our identifier and a recent number.
+fn named(frame: &[u8], list: Spot, own: Mi, sent: u32) -> bool
+    ensures { λ r. ⌜ r ≡ namedIn (now (frame .entry)) list own sent ⌝ }
+{
+    if list.len == 0 {
+        return false;
+    }
+    searched(frame, list, own, sent)
 }
 
 pub fn proves(frame: &[u8], w: Places, own: Mi, sent: u32) -> bool

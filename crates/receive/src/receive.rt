@@ -2,18 +2,24 @@
 use crate::judge;
 use crate::judge::Judged;
 use crate::keys;
+use crate::late;
 use crate::proof;
 use facts::Check;
 use frame::basic::Basic;
 use members::mi;
-use participant::call;
+use members::mi::Mi;
 use participant::record::Participant;
 use peers::enter;
 use peers::enter::Heard;
+use peers::expiry;
 use peers::look;
-use peers::look::Held;
+use peers::table::ROOM;
+use peers::table::Table;
+use sets::once::Spot;
 ghost use mathlib.Core.Path.{_≡_};
-ghost use Rattle.receive.specs.Receive.{refusalOf, heardOf, admitted, refusedOf, receivedOf};
+ghost use Rattle.participant.specs.Record.{setClock, setMark, setTable};
+ghost use Rattle.receive.specs.Keys.{keyedOf};
+ghost use Rattle.receive.specs.Receive.{refusalOf, heardOf, refusedOf, acceptedOf, receivedOf};
 
 // The wrapped key's place and length, 0 and 0 if no key was entered.
 pub enum Answer {
@@ -35,7 +41,7 @@ fn refusal(r: Judged) -> u8
     }
 }
 
-fn refused(p: Participant, n: u8) -> Received
+pub(crate) fn refused(p: Participant, n: u8) -> Received
     ensures { λ r. ⌜ r ≡ refusedOf p n ⌝ }
 {
     let answer = Answer::Refused(n);
@@ -45,7 +51,7 @@ fn refused(p: Participant, n: u8) -> Received
     }
 }
 
-fn heard_of(b: Basic) -> Heard
+pub(crate) fn heard_of(b: Basic) -> Heard
     ensures { λ r. ⌜ r ≡ heardOf b ⌝ }
 {
     let mi = b.mi;
@@ -60,18 +66,51 @@ fn heard_of(b: Basic) -> Heard
     }
 }
 
-// The sender entered or updated, and the mark.
-fn admit(q: Participant, held: Held, b: Basic, proves: bool) -> Participant
-    ensures { λ r. ⌜ r ≡ admitted q held b proves ⌝ }
+// The wrapped key, if the frame has one that is taken.
+pub(crate) fn accepted(q: Participant, frame: &[u8], m: Mi, sak: Spot) -> Received
+    ensures { λ r. ⌜ r ≡ acceptedOf (keyedOf q (now (frame .entry)) m sak) ⌝ }
 {
-    let before = q.table;
-    let table = enter::enter(before, held, heard_of(b), proves, q.clock);
-    let mut s = q;
-    s.mark = facts::either(q.mark, look::becomes_live(held, proves));
-    s.table = table;
-    s
+    let k = keys::take_sak(q, frame, m, sak);
+    let s = k.participant;
+    let answer = Answer::Accepted(k.place, k.len);
+    Received {
+        participant: s,
+        answer,
+    }
 }
 
+// The table, the clock and the mark anew.
+fn with_table(p: Participant, table: Table, clock: u64, mark: bool) -> Participant
+    ensures { λ r. ⌜ r ≡ setMark mark (setClock clock (setTable table p)) ⌝ }
+{
+    let mi = p.mi;
+    let ckn = p.ckn;
+    let wrapped = p.wrapped;
+    let latest = p.latest;
+    let old = p.old;
+    Participant {
+        mi,
+        mn: p.mn,
+        sci: p.sci,
+        priority: p.priority,
+        capability: p.capability,
+        desired: p.desired,
+        mark,
+        clock,
+        sent: p.sent,
+        kn: p.kn,
+        distributed: p.distributed,
+        size: p.size,
+        ckn,
+        wrapped,
+        table,
+        latest,
+        old,
+    }
+}
+
+// The table is copied once, gone through once and changed in one place; one in which something expires is left to `late`.
+// What is passed on whole (`aside`, `s`) is a copy that only that way has: the other ways then need none (docs/COST.md).
 pub fn receive(p: Participant, time: u64, verdict: bool, frame: &[u8]) -> Received
     ensures { λ r. ⌜ r ≡ receivedOf p time verdict (now (frame .entry)) ⌝ }
 {
@@ -84,22 +123,46 @@ pub fn receive(p: Participant, time: u64, verdict: bool, frame: &[u8]) -> Receiv
     let Check::Passed = facts::fail_if(mi::same_mi(own, m)) else {
         return refused(p, 10);
     };
-    let q = call::aged_to(p, time);
-    let table = q.table;
-    let held = look::look(table, m);
+    let mut t = p.table;
+    let count = t.count;
+    let n = facts::at_most(count, ROOM);
+    let from = expiry::oldest(time);
+    let mut at = n;
+    let mut i: usize = 0;
+    while i < n {
+        let e = t.peers[i];
+        if !expiry::still_from(e, from) {
+            let aside = p;
+            let r = late::late(aside, time, frame, b, w);
+            return r;
+        }
+        at = look::first(at, n, i, m, e);
+        i += 1;
+    }
+    let k = facts::at_most(at, 15);
+    let old = t.peers[k];
+    let held = look::found(at, n, old);
     let Check::Passed = facts::fail_if(look::stale(held, b.mn)) else {
         return refused(p, 11);
     };
-    let Check::Passed = facts::fail_if(look::no_room(held, table)) else {
+    let Check::Passed = facts::fail_if(look::no_room(held, t)) else {
         return refused(p, 12);
     };
     let proves = proof::proves(frame, w, own, p.mn);
+    let to = enter::place(held, count);
+    t.peers[to] = enter::anew(held, heard_of(b), proves, time);
+    t.count = enter::grown(held, count);
+    let mark = facts::either(p.mark, look::becomes_live(held, proves));
+    let q = with_table(p, t, time, mark);
     let sak = w.sak;
-    let k = keys::take_sak(admit(q, held, b, proves), frame, m, sak);
-    let s = k.participant;
-    let answer = Answer::Accepted(k.place, k.len);
+    if sak.present {
+        let s = q;
+        let r = accepted(s, frame, m, sak);
+        return r;
+    }
+    let answer = Answer::Accepted(0, 0);
     Received {
-        participant: s,
+        participant: q,
         answer,
     }
 }

@@ -2,8 +2,8 @@ use mathlib.Core.Path.{_≡_}
 use Rattle.peers.specs.Look.{becomesLive}
 use Rattle.receive.specs.Receive.{admitted}
 use borrow.Author.Needs.{needs}
-use Rattle.receive.proofs.receive.admit.Statement.{statement}
-use Rattle.receive.proofs.receive.admit.Tie as tie
+use Rattle.receive.proofs.late.admit.Statement.{statement}
+use Rattle.receive.proofs.late.admit.Tie as tie
 
 heard-of-requires : tie.Need-heard-of-requires
 heard-of-requires c κs = search needs

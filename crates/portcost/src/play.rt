@@ -1,0 +1,60 @@
+// One call, played again and again on the same participant. What comes back goes into a sum, so that no play is idle.
+use crate::setup;
+use octets::number;
+use participant::record::Participant;
+use receive::receive::Answer as Heard;
+use receive::receive::Received;
+use send::send::Answer as Sending;
+use send::send::Sent;
+use std::num;
+
+fn of_heard(r: Received) -> u64 {
+    let q = r.participant;
+    let a = r.answer;
+    match a {
+        Heard::Accepted(place, _) => num::wrapping_add_u64(q.clock, place as u64),
+        Heard::Refused(n) => n as u64,
+    }
+}
+
+fn of_sent(r: Sent) -> u64 {
+    let q = r.participant;
+    let a = r.answer;
+    match a {
+        Sending::Octets(n) => num::wrapping_add_u64(q.clock, n as u64),
+        Sending::Refused(n) => n as u64,
+    }
+}
+
+fn hear_often(p: Participant, n: u32, time: u64, frame: &[u8]) -> u64 {
+    let mut sum: u64 = 0;
+    let mut i: u32 = 0;
+    while i < n {
+        let r = receive::receive::receive(p, time, true, frame);
+        sum = num::wrapping_add_u64(sum, of_heard(r));
+        i += 1;
+    }
+    sum
+}
+
+fn send_often(p: Participant, n: u32, time: u64) -> u64 {
+    let mut out = [0u8; 2048];
+    let mut sum: u64 = 0;
+    let mut i: u32 = 0;
+    while i < n {
+        let r = send::send::send(p, time, 1, 1, &mut out);
+        sum = num::wrapping_add_u64(sum, of_sent(r));
+        i += 1;
+    }
+    sum
+}
+
+// `d` is n, an op, and its payload; a frame's verdict is yes.
+pub(crate) fn often(p: Participant, d: &[u8]) -> u64 {
+    let n = number::u32_at(d, 0);
+    let time = number::u64_at(d, 5);
+    if number::octet(d, 4) == 2 {
+        return hear_often(p, n, time, setup::rest(d, 14));
+    }
+    send_often(p, n, time)
+}

@@ -1,0 +1,52 @@
+// The calls that make the participant. Each payload is that of a call script's record; a send has room enough.
+use members::mi;
+use members::mi::Mi;
+use octets::number;
+use octets::run;
+use participant::create;
+use participant::distribute;
+use participant::record::Participant;
+
+pub(crate) fn nobody() -> Participant {
+    let r = create::create(0, Mi { hi: 0, lo: 0 }, 0, 0, 0, false, &[]);
+    r.participant
+}
+
+// The payload from `at` on.
+pub(crate) fn rest(d: &[u8], at: usize) -> &[u8] {
+    run::part(d, at, facts::less(d.len(), at))
+}
+
+fn make(d: &[u8]) -> Participant {
+    let r = create::create(
+        number::u64_at(d, 0),
+        mi::mi_at(d, 8),
+        number::u64_at(d, 20),
+        number::octet(d, 28),
+        number::octet(d, 29),
+        number::octet(d, 30) != 0,
+        rest(d, 31),
+    );
+    r.participant
+}
+
+pub(crate) fn called(p: Participant, op: u8, d: &[u8]) -> Participant {
+    match op {
+        1 => make(d),
+        2 => {
+            let verdict = number::octet(d, 8) != 0;
+            let r = receive::receive::receive(p, number::u64_at(d, 0), verdict, rest(d, 9));
+            r.participant
+        }
+        3 => {
+            let mut out = [0u8; 2048];
+            let r = send::send::send(p, number::u64_at(d, 0), 1, 1, &mut out);
+            r.participant
+        }
+        4 => {
+            let r = distribute::distribute(p, number::u64_at(d, 0), rest(d, 8));
+            r.participant
+        }
+        _ => p,
+    }
+}

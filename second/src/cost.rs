@@ -21,11 +21,17 @@ fn played(port: &mut Port, call: &Call) -> u64 {
             Ok(frame) => port.clock.wrapping_add(black_box(frame).len() as u64),
             Err(number) => u64::from(number),
         },
+        Call::Save { room } => match port.save(room) {
+            Ok(image) => black_box(image).len() as u64,
+            Err(number) => u64::from(number),
+        },
+        Call::Show { image } => Port::read_image(image, Rules::RIGHT).map_or(16, |port| port.clock),
         _ => 0,
     }
 }
 
-/// The sum over all plays, each on a copy of the participant as the script left it. Op 0 plays the copy alone.
+/// The sum over all plays, each on a copy of the participant as the script left it. Op 0 plays the copy alone, op 10 shows
+/// the image of that participant.
 pub fn cost(script: &[u8]) -> Option<u64> {
     let mut player = Player::new(Rules::RIGHT);
     for record in records(script) {
@@ -34,8 +40,13 @@ pub fn cost(script: &[u8]) -> Option<u64> {
             continue;
         }
         let (count, op, payload) = (u32_at(record, 3), *record.get(7)?, record.get(8..)?);
-        let call = if op == 0 { Call::Tick { time: u64_at(payload, 0) } } else { Call::read(op, payload)? };
         let base = player.port?;
+        let image = base.save(2048).ok()?;
+        let call = match op {
+            0 => Call::Tick { time: u64_at(payload, 0) },
+            10 => Call::Show { image: &image },
+            _ => Call::read(op, payload)?,
+        };
         let mut sum = 0u64;
         for _ in 0..count {
             let mut port = black_box(&base).clone();

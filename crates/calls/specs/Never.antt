@@ -10,10 +10,11 @@ use Rattle.members.specs.Mi.{miSame}
 use Rattle.participant.specs.declared.record.Participant.{Participant}
 use Rattle.participant.specs.Call.{settle, fact1, agedTo}
 use Rattle.participant.specs.Record.{first24}
-use Rattle.participant.specs.Distribute.{withFresh, distributedOf}
+use Rattle.changes.specs.Distribute.{withFresh, distributedOf}
 use Rattle.participant.specs.declared.call.Answer.the-variants.{Done}
 use Rattle.participant.specs.declared.call.Called.{Called}
-use Rattle.participant.proofs.Settle.{distributeFacts, none-holds, on-done}
+use Rattle.participant.proofs.Settle.{none-holds, on-done}
+use Rattle.changes.proofs.Settled.{distributeFacts}
 use Rattle.receive.specs.Judge.{basicIn, frameFacts}
 use Rattle.receive.specs.Receive.{tableFacts, receiveFacts}
 use Rattle.send.specs.Send.{sendFacts}

@@ -15,8 +15,8 @@ use Rattle.peers.specs.Enter.{entered}
 use Rattle.peers.proofs.Lists.{by-cases}
 use Rattle.participant.specs.Call.{agedTo}
 use Rattle.participant.specs.Record.{setLatest, setOld}
-use Rattle.participant.specs.Renew.{renewed}
-use Rattle.participant.specs.Distribute.{withFresh}
+use Rattle.changes.specs.Renew.{renewed}
+use Rattle.changes.specs.Distribute.{withFresh}
 use Rattle.participant.specs.Keys.{withKey, withoutKeys}
 use Rattle.participant.specs.declared.record.Participant.{Participant}
 use Rattle.participant.proofs.Settle.{NoneHolds}

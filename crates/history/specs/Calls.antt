@@ -8,9 +8,9 @@ use lib.ListN.{length}
 use Rattle.members.specs.declared.mi.Mi.{Mi}
 use Rattle.participant.specs.Call.{ticked}
 use Rattle.participant.specs.Create.{createdOf}
-use Rattle.participant.specs.Distribute.{distributedOf}
-use Rattle.participant.specs.Renew.{newMiOf}
-use Rattle.participant.specs.Report.{reported}
+use Rattle.changes.specs.Distribute.{distributedOf}
+use Rattle.changes.specs.Renew.{newMiOf}
+use Rattle.changes.specs.Report.{reported}
 use Rattle.participant.specs.declared.record.Participant.{Participant}
 use Rattle.participant.specs.declared.call.Called.{Called}
 use Rattle.participant.specs.declared.call.Answer as call

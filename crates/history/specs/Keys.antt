@@ -12,18 +12,18 @@ use Rattle.sets.specs.declared.once.Spot.{Spot}
 use Rattle.sets.specs.declared.kinds.SakHeader.{SakHeader}
 use Rattle.peers.specs.Kept.{Kept}
 use Rattle.peers.specs.Look.{heldIn, liveFor}
-use Rattle.peers.specs.declared.elect.Server.{Server}
-use Rattle.peers.specs.declared.elect.Server.the-variants.{Nobody, Ourselves, Elected}
+use Rattle.election.specs.declared.elect.Server.{Server}
+use Rattle.election.specs.declared.elect.Server.the-variants.{Nobody, Ourselves, Elected}
 use Rattle.peers.proofs.Lists.{by-cases, clash, first-of}
 use Rattle.peers.proofs.Same.{same-eq}
-use Rattle.peers.proofs.Least.{elected-live}
-use Rattle.participant.specs.Ask.{ownRank, serverOf, electedSelf, settledDown, freshDue}
+use Rattle.election.proofs.Least.{elected-live}
+use Rattle.questions.specs.Ask.{ownRank, serverOf, electedSelf, settledDown, freshDue}
 use Rattle.participant.specs.Call.{agedTo}
 use Rattle.participant.specs.Create.{fresh}
 use Rattle.participant.specs.Record.{first24}
-use Rattle.participant.specs.Renew.{renewed}
-use Rattle.participant.specs.Report.{installed}
-use Rattle.participant.specs.Distribute.{nextAn, confidentialityOf, freshKey, withFresh}
+use Rattle.changes.specs.Renew.{renewed}
+use Rattle.changes.specs.Report.{installed}
+use Rattle.changes.specs.Distribute.{nextAn, confidentialityOf, freshKey, withFresh}
 use Rattle.participant.specs.Keys.{noSlot, withKey, withoutKeys}
 use Rattle.participant.specs.declared.record.Key.{Key}
 use Rattle.participant.specs.declared.record.Slot.{Slot}

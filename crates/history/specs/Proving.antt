@@ -17,12 +17,12 @@ use Rattle.peers.proofs.Same.{same-eq}
 use Rattle.peers.proofs.Aging.{whole-tidy, fresh-now, tidy-expired}
 use Rattle.peers.proofs.Proving.{live-proved, proof-later, proved-expired, proved-own, proved-other}
 use Rattle.participant.specs.Call.{agedTo}
-use Rattle.participant.specs.Renew.{renewed}
-use Rattle.participant.specs.Distribute.{withFresh}
+use Rattle.changes.specs.Renew.{renewed}
+use Rattle.changes.specs.Distribute.{withFresh}
 use Rattle.participant.specs.Keys.{withKey}
 use Rattle.participant.specs.declared.record.Participant.{Participant}
 use Rattle.participant.proofs.Settle.{NoneHolds}
-use Rattle.participant.proofs.Fields.{create-empty}
+use Rattle.changes.proofs.Fields.{create-empty}
 use Rattle.receive.specs.Judge.{basicIn, frameFacts}
 use Rattle.receive.specs.Receive.{heardOf, tableFacts, receiveFacts}
 use Rattle.send.specs.Send.{sendFacts, sentAt}

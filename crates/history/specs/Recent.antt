@@ -22,7 +22,7 @@ use Rattle.writer.proofs.Laws.{length-header}
 use Rattle.participant.specs.Call.{agedTo}
 use Rattle.participant.specs.declared.record.Participant.{Participant}
 use Rattle.participant.proofs.Settle.{NoneHolds}
-use Rattle.participant.proofs.Fields.{create-empty}
+use Rattle.changes.proofs.Fields.{create-empty}
 use Rattle.receive.specs.Judge.{basicIn}
 use Rattle.receive.specs.Proof.{isRecent}
 use Rattle.send.specs.Message.{senderOf, messageOf}

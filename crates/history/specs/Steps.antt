@@ -9,13 +9,14 @@ use borrow.Author.Tests.{eqb-true}
 use Rattle.facts.specs.Facts.{firstOf}
 use Rattle.participant.specs.Call.{fact1, agedTo, ticked}
 use Rattle.participant.specs.Record.{first24, setLatest}
-use Rattle.participant.specs.Renew.{renewed, newMiOf}
-use Rattle.participant.specs.Report.{installed, reported}
-use Rattle.participant.specs.Distribute.{withFresh, distributedOf}
+use Rattle.changes.specs.Renew.{renewed, newMiOf}
+use Rattle.changes.specs.Report.{installed, reported}
+use Rattle.changes.specs.Distribute.{withFresh, distributedOf}
 use Rattle.participant.specs.declared.record.Participant.{Participant}
 use Rattle.participant.specs.declared.call.Called.{Called}
 use Rattle.participant.specs.declared.call.Answer.the-variants.{Done, Refused}
-use Rattle.participant.proofs.Settle.{NoneHolds, numbered, none-holds, distributeFacts, newMiFacts, reportFacts}
+use Rattle.participant.proofs.Settle.{NoneHolds, numbered, none-holds}
+use Rattle.changes.proofs.Settled.{distributeFacts, newMiFacts, reportFacts}
 use Rattle.receive.specs.Judge.{basicIn, walkIn, placesIn, frameFacts}
 use Rattle.receive.specs.Receive.{tableFacts, receiveFacts, acceptedBy, acceptedOf, receivedOf}
 use Rattle.receive.specs.Receive as receive

@@ -15,13 +15,13 @@ use Rattle.peers.proofs.Aging.{at-most-16, count-tidy}
 use Rattle.peers.proofs.Apart.{absent-clash}
 use Rattle.peers.proofs.Keeping.{kept-empty, kept-expired, kept-entered}
 use Rattle.participant.specs.Call.{agedTo}
-use Rattle.participant.specs.Renew.{renewed}
-use Rattle.participant.specs.Distribute.{withFresh}
+use Rattle.changes.specs.Renew.{renewed}
+use Rattle.changes.specs.Distribute.{withFresh}
 use Rattle.participant.specs.Keys.{withKey}
 use Rattle.participant.specs.declared.record.Participant.{Participant}
 use Rattle.participant.specs.declared.call.Answer.the-variants.{Done}
 use Rattle.participant.proofs.Settle.{NoneHolds}
-use Rattle.participant.proofs.Fields.{create-empty}
+use Rattle.changes.proofs.Fields.{create-empty}
 use Rattle.receive.specs.Judge.{basicIn, frameFacts}
 use Rattle.receive.specs.Receive.{heardOf, tableFacts, receiveFacts}
 use Rattle.send.specs.Send.{sendFacts, sentAt}

@@ -19,10 +19,10 @@ use Rattle.peers.specs.Expiry.{rebuilt, expired}
 use Rattle.peers.specs.Look.{heldIn, liveFor, potentialFor}
 use Rattle.peers.specs.Enter.{updated, replaced, enteredAt}
 use Rattle.peers.specs.Table.{emptyTable, pushed}
-use Rattle.peers.specs.Counts.{liveCount, liveList, potentialList}
-use Rattle.peers.specs.Elect.{elected}
+use Rattle.election.specs.Counts.{liveCount, liveList, potentialList}
+use Rattle.election.specs.Elect.{elected}
 use Rattle.writer.specs.Frame.{headerOctets, fixedOctets, cknOctets, basicOctets, listSet, listOctets, bodyOctets, frameOf}
-use Rattle.participant.specs.Ask.{serverOf, electedSelf}
+use Rattle.questions.specs.Ask.{serverOf, electedSelf}
 use Rattle.participant.specs.Call.{agedTo, ticked}
 use Rattle.participant.specs.Create.{fresh, nobody, createdOf}
 use Rattle.participant.specs.Keys.{noSlot, ofMember}

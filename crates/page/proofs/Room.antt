@@ -10,11 +10,11 @@ use Rattle.octets.proofs.Laws.{sets-append}
 use Rattle.page.specs.Text.{ascii, room, lineOf, endedOf}
 use native.Mathlib.Omega.{arith}
 use lib.ListN.{length, length-append, replicate, set}
-use Rattle.peers.specs.Counts.{liveCount, potentialCount}
+use Rattle.election.specs.Counts.{liveCount, potentialCount}
 use Rattle.peers.proofs.Aging.{at-most-16}
-use Rattle.peers.proofs.Listing.{live-potential}
+use Rattle.election.proofs.Listing.{live-potential}
 use Rattle.participant.specs.declared.record.Participant.{Participant}
-use Rattle.participant.specs.Ask.{serverOf}
+use Rattle.questions.specs.Ask.{serverOf}
 use Rattle.page.specs.Status.{keyText, statusText}
 use Rattle.page.proofs.Laws.{decimal-below}
 use Rattle.page.proofs.Stores.{server-le}

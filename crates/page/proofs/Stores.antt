@@ -6,10 +6,10 @@ use native.Mathlib.Omega.{arith}
 use lib.ListN.{length, length-append}
 use lib.Seq.{sets}
 use Rattle.octets.proofs.Laws.{sets-append}
-use Rattle.peers.specs.declared.elect.Server.{Server}
-use Rattle.peers.specs.declared.elect.Server.the-variants.{Nobody, Ourselves, Elected}
-use Rattle.peers.specs.Counts.{liveCount, potentialCount}
-use Rattle.participant.specs.Ask.{serverOf}
+use Rattle.election.specs.declared.elect.Server.{Server}
+use Rattle.election.specs.declared.elect.Server.the-variants.{Nobody, Ourselves, Elected}
+use Rattle.election.specs.Counts.{liveCount, potentialCount}
+use Rattle.questions.specs.Ask.{serverOf}
 use Rattle.participant.specs.declared.record.Participant.{Participant}
 use Rattle.page.specs.Text.{ascii, decimalOf}
 use Rattle.page.specs.Status.{serverText, keyText, statusText}

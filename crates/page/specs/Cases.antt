@@ -6,13 +6,13 @@ use mathlib.Core.List.{[], _∷_}
 use Rattle.members.specs.declared.mi.Mi.{Mi}
 use Rattle.peers.specs.declared.table.Peer.{Peer}
 use Rattle.peers.specs.Table.{tableOf, emptyTable}
-use Rattle.peers.specs.Counts.{liveCount, potentialCount}
-use Rattle.peers.specs.Elect.{elected}
+use Rattle.election.specs.Counts.{liveCount, potentialCount}
+use Rattle.election.specs.Elect.{elected}
 use Rattle.participant.specs.declared.record.Participant.{Participant}
 use Rattle.participant.specs.Record.{setMn, setKn, setTable, setLatest}
 use Rattle.participant.specs.Keys.{noSlot}
 use Rattle.participant.specs.Create.{fresh}
-use Rattle.participant.specs.Ask.{serverOf}
+use Rattle.questions.specs.Ask.{serverOf}
 use Rattle.page.specs.Text.{ascii, decimalOf, hexOf}
 use Rattle.page.specs.Status.{serverText, keyText, statusText}
 

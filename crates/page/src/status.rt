@@ -2,9 +2,9 @@
 use crate::line;
 use crate::line::Line;
 use crate::line::ROOM;
-use participant::ask;
+use election::elect::Server;
 use participant::record::Participant;
-use peers::elect::Server;
+use questions::ask;
 ghost use mathlib.Core.Path.{_≡_};
 ghost use Prim.Native.Nat.{_+_, _<_, _^_};
 ghost use lib.ListN.{length};

@@ -1,2 +1,1 @@
 pub mod Settle
-pub mod Fields

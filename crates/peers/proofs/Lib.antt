@@ -5,7 +5,4 @@ pub mod Entering
 pub mod Keeping
 pub mod Apart
 pub mod Proving
-pub mod Listing
-pub mod Order
-pub mod Least
 pub mod InPlace

@@ -3,6 +3,4 @@ pub mod Table
 pub mod Expiry
 pub mod Look
 pub mod Enter
-pub mod Counts
-pub mod Elect
 pub mod Kept

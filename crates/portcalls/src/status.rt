@@ -1,8 +1,8 @@
 // The answer to "ask": the line of the port page, then what is due.
 use crate::print;
 use page::status;
-use participant::ask;
 use participant::record::Participant;
+use questions::ask;
 
 fn due(out: &mut [u8], at: usize, x: bool) -> usize {
     if x {

@@ -1,12 +1,18 @@
 // One call, played again and again on the same participant. What comes back goes into a sum, so that no play is idle.
 use crate::setup;
+use image::read;
+use image::write;
 use octets::number;
+use octets::run;
+use participant::call::Answer;
+use participant::call::Called;
 use participant::record::Participant;
 use receive::receive::Answer as Heard;
 use receive::receive::Received;
 use send::send::Answer as Sending;
 use send::send::Sent;
 use std::num;
+use writer::mkpdu::Wrote;
 
 fn of_heard(r: Received) -> u64 {
     let q = r.participant;
@@ -49,12 +55,54 @@ fn send_often(p: Participant, n: u32, time: u64) -> u64 {
     sum
 }
 
-// `d` is n, an op, and its payload; a frame's verdict is yes.
+fn of_wrote(w: Wrote) -> u64 {
+    match w {
+        Wrote::Octets(n) => n as u64,
+        Wrote::Refused(n) => n as u64,
+    }
+}
+
+fn save_often(p: Participant, n: u32) -> u64 {
+    let mut out = [0u8; 1024];
+    let mut sum: u64 = 0;
+    let mut i: u32 = 0;
+    while i < n {
+        sum = num::wrapping_add_u64(sum, of_wrote(write::write(&mut out, p)));
+        i += 1;
+    }
+    sum
+}
+
+fn of_read(r: Called) -> u64 {
+    let q = r.participant;
+    let a = r.answer;
+    match a {
+        Answer::Done => q.clock,
+        Answer::Refused(n) => n as u64,
+    }
+}
+
+fn read_often(p: Participant, n: u32) -> u64 {
+    let mut out = [0u8; 1024];
+    let len = of_wrote(write::write(&mut out, p)) as usize;
+    let mut sum: u64 = 0;
+    let mut i: u32 = 0;
+    while i < n {
+        let r = read::read(run::part(&out, 0, len));
+        sum = num::wrapping_add_u64(sum, of_read(r));
+        i += 1;
+    }
+    sum
+}
+
+// `d` is n, an op, and its payload; a frame's verdict is yes, an image that is read is the participant's own.
 pub(crate) fn often(p: Participant, d: &[u8]) -> u64 {
     let n = number::u32_at(d, 0);
     let time = number::u64_at(d, 5);
-    if number::octet(d, 4) == 2 {
-        return hear_often(p, n, time, setup::rest(d, 14));
+    match number::octet(d, 4) {
+        2 => hear_often(p, n, time, setup::rest(d, 14)),
+        9 => save_often(p, n),
+        10 => read_often(p, n),
+        _ => send_often(p, n, time),
     }
-    send_often(p, n, time)
 }

@@ -15,16 +15,16 @@ use Rattle.peers.proofs.Lists.{by-cases, clash, both, first-of, second-of}
 use Rattle.peers.proofs.Same.{same-eq, same-refl, same-sym}
 use Rattle.participant.specs.Call.{agedTo}
 use Rattle.participant.specs.Create.{fresh}
-use Rattle.participant.specs.Renew.{taken, renewed}
-use Rattle.participant.specs.Report.{misreported, installed}
-use Rattle.participant.specs.Distribute.{confidentialityOf, freshKey, withFresh}
+use Rattle.changes.specs.Renew.{taken, renewed}
+use Rattle.changes.specs.Report.{misreported, installed}
+use Rattle.changes.specs.Distribute.{confidentialityOf, freshKey, withFresh}
 use Rattle.participant.specs.Keys.{noSlot, slotOf, ofMember, isKey, withKey, withoutKeys}
 use Rattle.participant.specs.declared.record.Key.{Key}
 use Rattle.participant.specs.declared.record.Slot.{Slot}
 use Rattle.participant.specs.declared.record.Participant.{Participant}
 use Rattle.participant.specs.declared.call.Answer.the-variants.{Done}
 use Rattle.participant.proofs.Settle.{NoneHolds}
-use Rattle.participant.proofs.Fields.{an-below}
+use Rattle.changes.proofs.Fields.{an-below}
 use Rattle.receive.specs.Judge.{basicIn, frameFacts}
 use Rattle.receive.specs.Keys.{isKnown, keyFrom, keyedOf}
 use Rattle.receive.specs.Receive.{admitted, tableFacts, receiveFacts, updatedBy, acceptedBy}

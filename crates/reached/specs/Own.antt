@@ -14,13 +14,14 @@ use Rattle.peers.proofs.Lists.{both}
 use Rattle.participant.specs.Call.{agedTo}
 use Rattle.participant.specs.Create.{badStart, fresh, nobody}
 use Rattle.participant.specs.Record.{first32}
-use Rattle.participant.specs.Renew.{renewed}
-use Rattle.participant.specs.Distribute.{withFresh}
+use Rattle.changes.specs.Renew.{renewed}
+use Rattle.changes.specs.Distribute.{withFresh}
 use Rattle.participant.specs.Keys.{withKey}
 use Rattle.participant.specs.declared.record.Participant.{Participant}
 use Rattle.participant.specs.declared.call.Called.{Called}
 use Rattle.participant.specs.declared.call.Answer.the-variants.{Done}
-use Rattle.participant.proofs.Settle.{NoneHolds, on-done, create-settles}
+use Rattle.participant.proofs.Settle.{NoneHolds, on-done}
+use Rattle.changes.proofs.Settled.{create-settles}
 use Rattle.receive.specs.Receive.{admitted, updatedBy}
 use Rattle.send.specs.Send.{sendFacts, sentAt}
 use Rattle.rules.specs.Rules.{zeros, unsentZero, undistributedZero, unusedZero, ownGood}

@@ -24,8 +24,8 @@ use Rattle.peers.proofs.Entering.{entries-entered}
 use Rattle.peers.proofs.Keeping.{every-aged, every-entered}
 use Rattle.participant.specs.Call.{agedTo}
 use Rattle.participant.specs.Create.{fresh}
-use Rattle.participant.specs.Renew.{renewed}
-use Rattle.participant.specs.Distribute.{withFresh}
+use Rattle.changes.specs.Renew.{renewed}
+use Rattle.changes.specs.Distribute.{withFresh}
 use Rattle.participant.specs.Keys.{withKey}
 use Rattle.participant.specs.declared.record.Participant.{Participant}
 use Rattle.participant.specs.declared.call.Answer.the-variants.{Done}

@@ -5,12 +5,12 @@ use mathlib.Core.List.{List}
 use lib.Dec.{ltb, eqb}
 use Rattle.members.specs.Mi.{miSame}
 use Rattle.members.specs.declared.mi.Mi.{Mi}
-use Rattle.peers.specs.declared.elect.Server.{Server}
-use Rattle.peers.specs.declared.elect.Server.the-variants.{Nobody, Ourselves, Elected}
+use Rattle.election.specs.declared.elect.Server.{Server}
+use Rattle.election.specs.declared.elect.Server.the-variants.{Nobody, Ourselves, Elected}
 use Rattle.sets.specs.Kinds.{sakIn}
 use Rattle.sets.specs.declared.kinds.SakHeader.{SakHeader}
 use Rattle.sets.specs.declared.once.Spot.{Spot}
-use Rattle.participant.specs.Ask.{serverOf}
+use Rattle.questions.specs.Ask.{serverOf}
 use Rattle.participant.specs.Keys.{ofMember, isKey, withKey, withoutKeys}
 use Rattle.participant.specs.declared.record.Key.{Key}
 use Rattle.participant.specs.declared.record.Participant.{Participant}

@@ -1,11 +1,11 @@
 // A Distributed SAK, used only if its sender is elected after the frame's update.
+use election::elect::Server;
 use members::mi;
 use members::mi::Mi;
-use participant::ask;
 use participant::keys;
 use participant::record::Key;
 use participant::record::Participant;
-use peers::elect::Server;
+use questions::ask;
 use sets::kinds;
 use sets::kinds::SakHeader;
 use sets::once::Spot;

@@ -1,14 +1,14 @@
 -- "Sending": what a frame says.
 use Prim.Native.Nat.{ℕ, _+_}
 use mathlib.Core.Bool.{Bool, true, false, cond, not, _&&_}
-use Rattle.peers.specs.Counts.{liveList, potentialList}
-use Rattle.peers.specs.declared.elect.Server.{Server}
-use Rattle.peers.specs.declared.elect.Server.the-variants.{Nobody, Ourselves, Elected}
+use Rattle.election.specs.Counts.{liveList, potentialList}
+use Rattle.election.specs.declared.elect.Server.{Server}
+use Rattle.election.specs.declared.elect.Server.the-variants.{Nobody, Ourselves, Elected}
 use Rattle.sets.specs.declared.kinds.KeyUse.{KeyUse}
 use Rattle.writer.specs.declared.mkpdu.Sender.{Sender}
 use Rattle.writer.specs.declared.mkpdu.Sak.{Sak}
 use Rattle.writer.specs.declared.mkpdu.Mkpdu.{Mkpdu}
-use Rattle.participant.specs.Ask.{serverOf, electedSelf}
+use Rattle.questions.specs.Ask.{serverOf, electedSelf}
 use Rattle.participant.specs.Keys.{ofMember}
 use Rattle.participant.specs.declared.record.Slot.{Slot}
 use Rattle.participant.specs.declared.record.Participant.{Participant}

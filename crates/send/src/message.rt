@@ -1,11 +1,11 @@
 // What the next frame says.
+use election::counts;
+use election::elect::Server;
 use members::mi::Mi;
-use participant::ask;
 use participant::keys;
 use participant::record::Participant;
 use participant::record::Slot;
-use peers::counts;
-use peers::elect::Server;
+use questions::ask;
 use sets::kinds::KeyUse;
 use sets::kinds::SakUse;
 use writer::mkpdu::Mkpdu;

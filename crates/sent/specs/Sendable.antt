@@ -10,9 +10,9 @@ use Rattle.members.specs.Mi.{miSame}
 use Rattle.members.proofs.Laws.{Fitting}
 use Rattle.peers.specs.Lists.{those}
 use Rattle.peers.specs.Table.{entries}
-use Rattle.peers.specs.Counts.{entryOf}
+use Rattle.election.specs.Counts.{entryOf}
 use Rattle.peers.specs.declared.table.Peer.{Peer}
-use Rattle.peers.proofs.Listing.{live-listed, potential-listed}
+use Rattle.election.proofs.Listing.{live-listed, potential-listed}
 use Rattle.sets.specs.declared.kinds.KeyUse.{KeyUse}
 use Rattle.participant.specs.declared.record.Key.{Key}
 use Rattle.participant.specs.declared.record.Slot.{Slot}

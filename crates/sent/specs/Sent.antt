@@ -15,8 +15,8 @@ use Rattle.walk.specs.declared.Walked.the-variants.{End}
 use Rattle.peers.specs.Lists.{those}
 use Rattle.peers.specs.Table.{entries}
 use Rattle.peers.specs.Look.{isLive, isPotential}
-use Rattle.peers.specs.Counts.{entryOf}
-use Rattle.peers.proofs.Listing.{live-listed, potential-listed}
+use Rattle.election.specs.Counts.{entryOf}
+use Rattle.election.proofs.Listing.{live-listed, potential-listed}
 use Rattle.writer.specs.Frame.{bodyOctets}
 use Rattle.writer.specs.declared.mkpdu.Mkpdu.{Mkpdu}
 use Rattle.participant.specs.Call.{agedTo}

@@ -8,9 +8,12 @@ pub mod Frame
 pub mod Sets
 pub mod Walk
 pub mod Peers
+pub mod Election
 pub mod Writer
 pub mod Reader
 pub mod Participant
+pub mod Questions
+pub mod Changes
 pub mod Receive
 pub mod Send
 pub mod Layout

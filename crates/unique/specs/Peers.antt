@@ -2,20 +2,14 @@
 use Rattle.peers.proofs as peers
 use Rattle.unique.specs.Law.{OneAnswer, same}
 
-pub peers·counts·live-count : OneAnswer peers.counts.live_count.Kinds.ps peers.counts.live_count.Kinds.r peers.counts.live_count.Reads.Learnt
-peers·counts·live-count κs a z z′ e e′ h h′ = same h h′
+pub peers·enter·anew : OneAnswer peers.enter.anew.Kinds.ps peers.enter.anew.Kinds.r peers.enter.anew.Reads.Learnt
+peers·enter·anew κs a z z′ e e′ h h′ = same h h′
 
-pub peers·counts·potential-count : OneAnswer peers.counts.potential_count.Kinds.ps peers.counts.potential_count.Kinds.r peers.counts.potential_count.Reads.Learnt
-peers·counts·potential-count κs a z z′ e e′ h h′ = same h h′
+pub peers·enter·place : OneAnswer peers.enter.place.Kinds.ps peers.enter.place.Kinds.r peers.enter.place.Reads.Learnt
+peers·enter·place κs a z z′ e e′ h h′ = same h h′
 
-pub peers·counts·live-list : OneAnswer peers.counts.live_list.Kinds.ps peers.counts.live_list.Kinds.r peers.counts.live_list.Reads.Learnt
-peers·counts·live-list κs a z z′ e e′ h h′ = same h h′
-
-pub peers·counts·potential-list : OneAnswer peers.counts.potential_list.Kinds.ps peers.counts.potential_list.Kinds.r peers.counts.potential_list.Reads.Learnt
-peers·counts·potential-list κs a z z′ e e′ h h′ = same h h′
-
-pub peers·elect·elect : OneAnswer peers.elect.elect.Kinds.ps peers.elect.elect.Kinds.r peers.elect.elect.Reads.Learnt
-peers·elect·elect κs a z z′ e e′ h h′ = same h h′
+pub peers·enter·grown : OneAnswer peers.enter.grown.Kinds.ps peers.enter.grown.Kinds.r peers.enter.grown.Reads.Learnt
+peers·enter·grown κs a z z′ e e′ h h′ = same h h′
 
 pub peers·enter·enter : OneAnswer peers.enter.enter.Kinds.ps peers.enter.enter.Kinds.r peers.enter.enter.Reads.Learnt
 peers·enter·enter κs a z z′ e e′ h h′ = same h h′
@@ -23,11 +17,23 @@ peers·enter·enter κs a z z′ e e′ h h′ = same h h′
 pub peers·expiry·fresh : OneAnswer peers.expiry.fresh.Kinds.ps peers.expiry.fresh.Kinds.r peers.expiry.fresh.Reads.Learnt
 peers·expiry·fresh κs a z z′ e e′ h h′ = same h h′
 
+pub peers·expiry·oldest : OneAnswer peers.expiry.oldest.Kinds.ps peers.expiry.oldest.Kinds.r peers.expiry.oldest.Reads.Learnt
+peers·expiry·oldest κs a z z′ e e′ h h′ = same h h′
+
+pub peers·expiry·still-from : OneAnswer peers.expiry.still_from.Kinds.ps peers.expiry.still_from.Kinds.r peers.expiry.still_from.Reads.Learnt
+peers·expiry·still-from κs a z z′ e e′ h h′ = same h h′
+
 pub peers·expiry·expire : OneAnswer peers.expiry.expire.Kinds.ps peers.expiry.expire.Kinds.r peers.expiry.expire.Reads.Learnt
 peers·expiry·expire κs a z z′ e e′ h h′ = same h h′
 
 pub peers·look·look : OneAnswer peers.look.look.Kinds.ps peers.look.look.Kinds.r peers.look.look.Reads.Learnt
 peers·look·look κs a z z′ e e′ h h′ = same h h′
+
+pub peers·look·first : OneAnswer peers.look.first.Kinds.ps peers.look.first.Kinds.r peers.look.first.Reads.Learnt
+peers·look·first κs a z z′ e e′ h h′ = same h h′
+
+pub peers·look·found : OneAnswer peers.look.found.Kinds.ps peers.look.found.Kinds.r peers.look.found.Reads.Learnt
+peers·look·found κs a z z′ e e′ h h′ = same h h′
 
 pub peers·look·stale : OneAnswer peers.look.stale.Kinds.ps peers.look.stale.Kinds.r peers.look.stale.Reads.Learnt
 peers·look·stale κs a z z′ e e′ h h′ = same h h′

@@ -1,0 +1,3 @@
+-- The laws that the layers above cite.
+pub mod Settled
+pub mod Fields

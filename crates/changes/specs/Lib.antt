@@ -1,0 +1,3 @@
+pub mod Distribute
+pub mod Renew
+pub mod Report

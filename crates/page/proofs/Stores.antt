@@ -1,11 +1,11 @@
 -- Texts stored one after the other.
 use Prim.Native.Nat.{ℕ, _+_, _≤_}
-use mathlib.Core.Path.{_≡_, ap₂, sym, _∙_}
+use mathlib.Core.Path.{_≡_}
 use mathlib.Core.List.{List, _++_}
 use native.Mathlib.Omega.{arith}
 use lib.ListN.{length, length-append}
 use lib.Seq.{sets}
-use Rattle.octets.proofs.Laws.{sets-append}
+use Rattle.octets.proofs.Stores.{sets-on}
 use Rattle.election.specs.declared.elect.Server.{Server}
 use Rattle.election.specs.declared.elect.Server.the-variants.{Nobody, Ourselves, Elected}
 use Rattle.election.specs.Counts.{liveCount, potentialCount}
@@ -21,8 +21,7 @@ Stored l at text n l′ = (n ≡ at + length text) × (l′ ≡ sets l at text)
 
 -- two texts, the second where the first one ended
 pub stored-two : (l : List ℕ) {l1 l2 : List ℕ} (at : ℕ) {n m : ℕ} (a b : List ℕ) → Stored l at a n l1 → Stored l1 n b m l2 → Stored l at (a ++ b) m l2
-stored-two l at a b (ea, e1) (eb, e2) =
-    (omega (arith, ea, eb, length-append a b), e2 ∙ ap₂ (λ (z : List ℕ) (k : ℕ). sets z k b) e1 ea ∙ sym (sets-append l at a b))
+stored-two l at a b (ea, e1) (eb, e2) = (omega (arith, ea, eb, length-append a b), sets-on l _ _ at _ a b ea e1 e2)
 
 -- the seven parts of the line
 pub stored : (l : List ℕ) (p : Participant) {l1 l2 l3 l4 l5 l6 l7 : List ℕ} {n1 n2 n3 n4 n5 n6 n7 : ℕ} (live potential : ℕ) (server : Server)

@@ -15,7 +15,7 @@ use Rattle.participant.specs.declared.call.Answer.the-variants.{Done}
 use Rattle.participant.specs.declared.call.Called.{Called}
 use Rattle.participant.proofs.Settle.{none-holds, on-done}
 use Rattle.changes.proofs.Settled.{distributeFacts}
-use Rattle.receive.specs.Judge.{basicIn, frameFacts}
+use Rattle.hearing.specs.Judge.{basicIn, frameFacts}
 use Rattle.receive.specs.Receive.{tableFacts, receiveFacts}
 use Rattle.send.specs.Send.{sendFacts}
 use Rattle.calls.specs.Received.{accepted-none}

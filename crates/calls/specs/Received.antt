@@ -16,10 +16,10 @@ use Rattle.participant.specs.Call.{agedTo}
 use Rattle.participant.specs.Keys.{withKey, withoutKeys}
 use Rattle.participant.specs.declared.record.Participant.{Participant}
 use Rattle.participant.proofs.Settle.{First, NoneHolds, first-holds, none-holds}
-use Rattle.receive.specs.Judge.{basicIn, walkIn, placesIn, frameFacts}
-use Rattle.receive.specs.Keys.{isServer, isKnown, keyedOf}
+use Rattle.hearing.specs.Judge.{basicIn, walkIn, placesIn, frameFacts}
+use Rattle.hearing.specs.Keys.{isServer, isKnown, keyedOf}
 use Rattle.receive.specs.Receive.{admitted, tableFacts, receiveFacts, refusedOf, acceptedOf, updatedBy, acceptedBy, receivedOf}
-use Rattle.receive.specs.declared.keys.Keyed.{Keyed}
+use Rattle.hearing.specs.declared.keys.Keyed.{Keyed}
 use Rattle.receive.specs.declared.receive.Answer.the-variants.{Accepted, Refused}
 use Rattle.receive.specs.declared.receive.Received.{Received}
 

@@ -28,15 +28,15 @@ use Rattle.participant.specs.Create.{fresh, nobody, createdOf}
 use Rattle.participant.specs.Record.{setMn}
 use Rattle.participant.specs.Keys.{noSlot, ofMember}
 use Rattle.participant.specs.declared.record.Participant.{Participant}
-use Rattle.receive.specs.Judge.{frameFacts}
-use Rattle.receive.specs.Keys.{keyedOf}
-use Rattle.receive.specs.Proof.{isRecent, namedIn, provesIn}
+use Rattle.hearing.specs.Judge.{frameFacts}
+use Rattle.hearing.specs.Keys.{keyedOf}
+use Rattle.hearing.specs.Proof.{isRecent, namedIn, provesIn}
 use Rattle.receive.specs.Receive.{heardOf, admitted, tableFacts, receiveFacts, updatedBy, acceptedBy, receivedOf}
 use Rattle.send.specs.Message.{keyUseOf, serverFlag, handsOut, senderOf, sakOf, messageOf}
 use Rattle.send.specs.Send.{frameAt, sendFacts, sentAt, sentOf, leftBy}
 use Rattle.layout.specs.Layout.{headOf, entryOf, bodies, laidOf}
 use Rattle.layout.specs.Layout as layout
-use Rattle.records.specs.Own.{namedOctets, timesOctets, keptOctets, ownOctets}
+use Rattle.own.specs.Own.{namedOctets, timesOctets, keptOctets, ownOctets}
 use Rattle.records.specs.Peer.{peersOctets}
 use Rattle.image.specs.Image.{ownPart, peersPart, keysPart, imageOf}
 use Rattle.history.specs.Calls.{Call, created, called, received, receives, sends, ticks, after}

@@ -20,9 +20,9 @@ use Rattle.changes.specs.Distribute.{withFresh}
 use Rattle.participant.specs.Keys.{withKey, withoutKeys}
 use Rattle.participant.specs.declared.record.Participant.{Participant}
 use Rattle.participant.proofs.Settle.{NoneHolds}
-use Rattle.receive.specs.Judge.{basicIn, walkIn, placesIn, frameFacts}
-use Rattle.receive.specs.Keys.{isServer, isKnown, keyFrom, keyedOf}
-use Rattle.receive.specs.Proof.{provesIn}
+use Rattle.hearing.specs.Judge.{basicIn, walkIn, placesIn, frameFacts}
+use Rattle.hearing.specs.Keys.{isServer, isKnown, keyFrom, keyedOf}
+use Rattle.hearing.specs.Proof.{provesIn}
 use Rattle.receive.specs.Receive.{heardOf, admitted, receiveFacts, updatedBy, acceptedBy}
 use Rattle.send.specs.Send.{sendFacts, sentAt}
 use Rattle.history.specs.Calls.{Call, receives, sends, distributes, ticks, renews, reports, asks, saves, timeOf, taken, handed}

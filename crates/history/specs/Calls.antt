@@ -15,7 +15,7 @@ use Rattle.participant.specs.declared.record.Participant.{Participant}
 use Rattle.participant.specs.declared.call.Called.{Called}
 use Rattle.participant.specs.declared.call.Answer as call
 use Rattle.participant.specs.declared.call.Answer.the-variants as onCall
-use Rattle.receive.specs.Judge.{basicIn}
+use Rattle.hearing.specs.Judge.{basicIn}
 use Rattle.receive.specs.Receive.{receivedOf}
 use Rattle.receive.specs.declared.receive.Answer as receive
 use Rattle.receive.specs.declared.receive.Answer.the-variants as onReceive

@@ -29,8 +29,8 @@ use Rattle.participant.specs.declared.record.Key.{Key}
 use Rattle.participant.specs.declared.record.Slot.{Slot}
 use Rattle.participant.specs.declared.record.Participant.{Participant}
 use Rattle.participant.specs.declared.call.Answer.the-variants.{Done}
-use Rattle.receive.specs.Judge.{basicIn, walkIn, placesIn}
-use Rattle.receive.specs.Keys.{isPeer, isServer, keyFrom}
+use Rattle.hearing.specs.Judge.{basicIn, walkIn, placesIn}
+use Rattle.hearing.specs.Keys.{isPeer, isServer, keyFrom}
 use Rattle.receive.specs.Receive.{admitted, updatedBy, acceptedBy}
 use Rattle.send.specs.Send.{sentAt}
 use Rattle.history.specs.Calls.{Creation, created, Call, receives, sends, distributes, ticks, renews, reports, asks, saves, after, accepted, identifier, keysDistributed, Made}

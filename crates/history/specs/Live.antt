@@ -19,8 +19,8 @@ use Rattle.peers.proofs.Lists.{by-cases, never, clash, both, first-of, second-o
 use Rattle.peers.proofs.Same.{same-eq, same-refl}
 use Rattle.participant.specs.declared.record.Participant.{Participant}
 use Rattle.participant.specs.declared.call.Answer.the-variants.{Done}
-use Rattle.receive.specs.Judge.{basicIn, walkIn, placesIn}
-use Rattle.receive.specs.Proof.{isRecent, anyRecent, namedIn, provesIn}
+use Rattle.hearing.specs.Judge.{basicIn, walkIn, placesIn}
+use Rattle.hearing.specs.Proof.{isRecent, anyRecent, namedIn, provesIn}
 use Rattle.history.specs.Calls.{Creation, created, Call, receives, sends, distributes, ticks, renews, reports, asks, saves, after, accepted, identifier, numbersSent, Made, NoneTaken}
 use Rattle.history.specs.Steps.{accepted-none}
 use Rattle.history.specs.Becomes.{proves, not-before}

@@ -23,7 +23,7 @@ use Rattle.participant.specs.Keys.{withKey}
 use Rattle.participant.specs.declared.record.Participant.{Participant}
 use Rattle.participant.proofs.Settle.{NoneHolds}
 use Rattle.changes.proofs.Fields.{create-empty}
-use Rattle.receive.specs.Judge.{basicIn, frameFacts}
+use Rattle.hearing.specs.Judge.{basicIn, frameFacts}
 use Rattle.receive.specs.Receive.{heardOf, tableFacts, receiveFacts}
 use Rattle.send.specs.Send.{sendFacts, sentAt}
 use Rattle.history.specs.Calls.{Creation, created, Call, receives, sends, distributes, ticks, renews, reports, asks, saves, after, over}

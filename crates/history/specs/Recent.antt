@@ -23,8 +23,8 @@ use Rattle.participant.specs.Call.{agedTo}
 use Rattle.participant.specs.declared.record.Participant.{Participant}
 use Rattle.participant.proofs.Settle.{NoneHolds}
 use Rattle.changes.proofs.Fields.{create-empty}
-use Rattle.receive.specs.Judge.{basicIn}
-use Rattle.receive.specs.Proof.{isRecent}
+use Rattle.hearing.specs.Judge.{basicIn}
+use Rattle.hearing.specs.Proof.{isRecent}
 use Rattle.send.specs.Message.{senderOf, messageOf}
 use Rattle.send.specs.Send.{frameAt, sendFacts, leftBy}
 use Rattle.send.proofs.Laws.{send-accepted}

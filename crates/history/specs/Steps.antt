@@ -17,11 +17,11 @@ use Rattle.participant.specs.declared.call.Called.{Called}
 use Rattle.participant.specs.declared.call.Answer.the-variants.{Done, Refused}
 use Rattle.participant.proofs.Settle.{NoneHolds, numbered, none-holds}
 use Rattle.changes.proofs.Settled.{distributeFacts, newMiFacts, reportFacts}
-use Rattle.receive.specs.Judge.{basicIn, walkIn, placesIn, frameFacts}
+use Rattle.hearing.specs.Judge.{basicIn, walkIn, placesIn, frameFacts}
 use Rattle.receive.specs.Receive.{tableFacts, receiveFacts, acceptedBy, acceptedOf, receivedOf}
 use Rattle.receive.specs.Receive as receive
 use Rattle.receive.specs.declared.receive.Received.{Received}
-use Rattle.receive.specs.declared.keys.Keyed.{Keyed}
+use Rattle.hearing.specs.declared.keys.Keyed.{Keyed}
 use Rattle.send.specs.Send.{frameAt, sendFacts, sentAt, sentOf, leftBy}
 use Rattle.send.specs.Send as send
 use Rattle.send.specs.declared.send.Sent.{Sent}

@@ -26,9 +26,9 @@ use Rattle.questions.specs.Ask.{serverOf, electedSelf}
 use Rattle.participant.specs.Call.{agedTo, ticked}
 use Rattle.participant.specs.Create.{fresh, nobody, createdOf}
 use Rattle.participant.specs.Keys.{noSlot, ofMember}
-use Rattle.receive.specs.Judge.{frameFacts}
-use Rattle.receive.specs.Keys.{keyedOf}
-use Rattle.receive.specs.Proof.{isRecent, namedIn, provesIn}
+use Rattle.hearing.specs.Judge.{frameFacts}
+use Rattle.hearing.specs.Keys.{keyedOf}
+use Rattle.hearing.specs.Proof.{isRecent, namedIn, provesIn}
 use Rattle.receive.specs.Receive.{heardOf, admitted, tableFacts, receiveFacts, updatedBy, acceptedBy, receivedOf}
 use Rattle.send.specs.Message.{keyUseOf, serverFlag, handsOut, senderOf, sakOf, messageOf}
 use Rattle.send.specs.Send.{frameAt, sendFacts, sentAt, sentOf, leftBy}

@@ -14,10 +14,11 @@ use Rattle.participant.specs.declared.record.Slot.{Slot}
 use Rattle.participant.specs.declared.record.Participant.{Participant}
 use Rattle.layout.specs.Layout.{headOf, entryOf, entriesFrom, bodies, laidOf}
 use Rattle.layout.proofs.Laws.{length-head, length-entry}
-use Rattle.records.specs.Own.{ownOctets}
+use Rattle.own.specs.Own.{ownOctets}
 use Rattle.records.specs.Peer.{peerOctets, peersOctets}
 use Rattle.records.specs.Key.{keyOctets, slotOctets}
-use Rattle.records.proofs.Laws.{length-own, length-peer, length-key}
+use Rattle.records.proofs.Laws.{length-peer, length-key}
+use Rattle.own.proofs.Lengths.{length-own}
 use Rattle.image.specs.Image.{ownPart, peersPart, keysPart, contentsFor, imageOf}
 
 pub length-entries : (t : Table) → length (t .peers) ≡ 16 → length (entries t) ≡ min (t .count) 16

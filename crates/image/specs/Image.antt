@@ -6,7 +6,7 @@ use Rattle.packed.specs.Bit.{bit}
 use Rattle.peers.specs.Table.{entries}
 use Rattle.participant.specs.declared.record.Participant.{Participant}
 use Rattle.layout.specs.Layout.{Part, headOf, entryOf, laidOf}
-use Rattle.records.specs.Own.{ownOctets}
+use Rattle.own.specs.Own.{ownOctets}
 use Rattle.records.specs.Peer.{peersOctets}
 use Rattle.records.specs.Key.{slotOctets}
 

@@ -10,7 +10,7 @@ use Rattle.participant.specs.Create.{nobody}
 use Rattle.participant.specs.declared.record.Participant.{Participant}
 use Rattle.participant.specs.declared.call.Called.{Called}
 use Rattle.layout.specs.Layout.{recordsAt, offsetAt, laidOut}
-use Rattle.records.specs.Own.{ownAt, ownClean}
+use Rattle.own.specs.Own.{ownAt, ownClean}
 use Rattle.records.specs.Peer.{peersAt, peersClean}
 use Rattle.records.specs.Key.{slotAt, slotClean}
 use Rattle.rules.specs.Rules.{rules}

@@ -1,12 +1,12 @@
 // Reading an image back: refusal 16.
 use facts::Check;
 use layout::contents;
+use own::record;
 use participant::call;
 use participant::call::Called;
 use participant::create;
 use participant::record::Participant;
 use records::key;
-use records::own;
 use records::peer;
 use rules::kept;
 ghost use mathlib.Core.Path.{_≡_};
@@ -37,7 +37,7 @@ fn clean_records(s: &[u8]) -> bool
 {
     let n = contents::records_at(s, 2);
     let at = contents::offset_at(s, 2);
-    if !own::own_clean(s, contents::offset_at(s, 0)) {
+    if !record::own_clean(s, contents::offset_at(s, 0)) {
         return false;
     }
     if !peer::peers_clean(s, contents::offset_at(s, 1), contents::records_at(s, 1)) {
@@ -55,7 +55,7 @@ fn told(s: &[u8]) -> Participant
 {
     let n = contents::records_at(s, 2);
     let at = contents::offset_at(s, 2);
-    let mut p = own::own_at(s, contents::offset_at(s, 0));
+    let mut p = record::own_at(s, contents::offset_at(s, 0));
     p.old = key::slot_at(s, at, 1, 1 < n);
     p.latest = key::slot_at(s, at, 0, 0 < n);
     p.table = peer::peers_at(

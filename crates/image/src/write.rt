@@ -1,11 +1,11 @@
 // Writing the image of a participant.
 use layout::contents;
+use own::record;
 use packed::bit;
 use participant::record::Participant;
 use participant::record::Slot;
 use peers::table::ROOM;
 use records::key;
-use records::own;
 use records::peer;
 use writer::mkpdu::Wrote;
 ghost use mathlib.Core.Path.{_≡_};
@@ -49,7 +49,7 @@ pub fn write(out: &mut [u8], p: Participant) -> Wrote
         return Wrote::Refused(13);
     }
     put_contents(out, n, bit::bit_of(latest.held) + bit::bit_of(old.held));
-    own::put_own(out, 28, p);
+    record::put_own(out, 28, p);
     peer::put_peers(out, 144, t);
     key::put_slot(out, keys, latest);
     key::put_slot(out, next, old);

@@ -25,8 +25,8 @@ use Rattle.participant.specs.declared.record.Participant.{Participant}
 use Rattle.participant.specs.declared.call.Answer.the-variants.{Done}
 use Rattle.participant.proofs.Settle.{NoneHolds}
 use Rattle.changes.proofs.Fields.{an-below}
-use Rattle.receive.specs.Judge.{basicIn, frameFacts}
-use Rattle.receive.specs.Keys.{isKnown, keyFrom, keyedOf}
+use Rattle.hearing.specs.Judge.{basicIn, frameFacts}
+use Rattle.hearing.specs.Keys.{isKnown, keyFrom, keyedOf}
 use Rattle.receive.specs.Receive.{admitted, tableFacts, receiveFacts, updatedBy, acceptedBy}
 use Rattle.send.specs.Send.{sentAt}
 use Rattle.rules.specs.Rules.{only, useGood, keyGood, slotGood, keysGood}

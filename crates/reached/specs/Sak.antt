@@ -17,7 +17,7 @@ use Rattle.sets.specs.declared.once.Places.{Places}
 use Rattle.sets.proofs.Laws.{or-false, head-room, good-head}
 use Rattle.walk.specs.Walk.{nextAt, placesAfter, walkGo, walkFrom, walkOf}
 use Rattle.peers.proofs.Lists.{by-cases, clash, second-of}
-use Rattle.receive.specs.Judge.{basicIn, placesIn}
+use Rattle.hearing.specs.Judge.{basicIn, placesIn}
 use Rattle.history.specs.Keys.{sakSpot, sakRead}
 
 -- "The key number (KN) is not zero in a type 4 body that isn't empty."

@@ -21,11 +21,11 @@ use Rattle.peers.proofs.InPlace.{in-place}
 use Rattle.participant.specs.Record.{setMark, setClock, setTable}
 use Rattle.participant.specs.Call.{agedTo}
 use Rattle.participant.specs.declared.record.Participant.{Participant}
-use Rattle.receive.specs.Proof.{provesIn}
-use Rattle.receive.specs.Judge.{judgedOf}
-use Rattle.receive.specs.Keys.{keyedOf}
+use Rattle.hearing.specs.Proof.{provesIn}
+use Rattle.hearing.specs.Judge.{judgedOf}
+use Rattle.hearing.specs.Keys.{keyedOf}
 use Rattle.receive.specs.Receive.{heardOf, admitted, heldAt, tableFacts, refusedOf, acceptedOf, updatedBy, acceptedBy, settledBy, receivedOf}
-use Rattle.receive.specs.declared.judge.Judged.the-variants as judged
+use Rattle.hearing.specs.declared.judge.Judged.the-variants as judged
 use Rattle.receive.specs.declared.receive.Answer.the-variants.{Accepted}
 use Rattle.receive.proofs.Laws.{judged-good}
 

@@ -1,4 +1,1 @@
-pub mod Proof
-pub mod Judge
-pub mod Keys
 pub mod Receive

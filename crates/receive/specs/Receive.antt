@@ -14,14 +14,14 @@ use Rattle.peers.specs.declared.enter.Heard.{Heard}
 use Rattle.participant.specs.Record.{setMark, setTable}
 use Rattle.participant.specs.Call.{agedTo}
 use Rattle.participant.specs.declared.record.Participant.{Participant}
-use Rattle.receive.specs.declared.judge.Judged.{Judged}
-use Rattle.receive.specs.declared.judge.Judged.the-variants as judged
-use Rattle.receive.specs.declared.keys.Keyed.{Keyed}
+use Rattle.hearing.specs.declared.judge.Judged.{Judged}
+use Rattle.hearing.specs.declared.judge.Judged.the-variants as judged
+use Rattle.hearing.specs.declared.keys.Keyed.{Keyed}
 use Rattle.receive.specs.declared.receive.Answer.the-variants.{Accepted, Refused}
 use Rattle.receive.specs.declared.receive.Received.{Received}
-use Rattle.receive.specs.Proof.{provesIn}
-use Rattle.receive.specs.Judge.{basicIn, walkIn, placesIn, frameFacts}
-use Rattle.receive.specs.Keys.{keyedOf}
+use Rattle.hearing.specs.Proof.{provesIn}
+use Rattle.hearing.specs.Judge.{basicIn, walkIn, placesIn, frameFacts}
+use Rattle.hearing.specs.Keys.{keyedOf}
 
 abbrev pub refusalOf : Judged → ℕ
 refusalOf (judged.Refused n) = n

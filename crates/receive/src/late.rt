@@ -1,9 +1,9 @@
 // A frame at whose time something of the table expires: the table is made anew first.
-use crate::proof;
 use crate::receive;
 use crate::receive::Received;
 use facts::Check;
 use frame::basic::Basic;
+use hearing::proof;
 use participant::call;
 use participant::record::Participant;
 use peers::enter;

@@ -1,11 +1,11 @@
 // Receiving a frame: refusals 1 to 12.
-use crate::judge;
-use crate::judge::Judged;
-use crate::keys;
 use crate::late;
-use crate::proof;
 use facts::Check;
 use frame::basic::Basic;
+use hearing::judge;
+use hearing::judge::Judged;
+use hearing::keys;
+use hearing::proof;
 use members::mi;
 use members::mi::Mi;
 use participant::record::Participant;
@@ -18,7 +18,7 @@ use peers::table::Table;
 use sets::once::Spot;
 ghost use mathlib.Core.Path.{_≡_};
 ghost use Rattle.participant.specs.Record.{setClock, setMark, setTable};
-ghost use Rattle.receive.specs.Keys.{keyedOf};
+ghost use Rattle.hearing.specs.Keys.{keyedOf};
 ghost use Rattle.receive.specs.Receive.{refusalOf, heardOf, refusedOf, acceptedOf, receivedOf};
 
 // The wrapped key's place and length, 0 and 0 if no key was entered.

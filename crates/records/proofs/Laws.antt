@@ -4,7 +4,6 @@ use mathlib.Core.Path.{_≡_, refl, ap, sym, _∙_}
 use mathlib.Core.List.{List, [], _∷_, _++_}
 use mathlib.Core.Bool.{true, false}
 use native.Mathlib.Omega.{arith}
-use native.Mathlib.Nat.{add-zero}
 use native.Mathlib.Numerals.{add-one}
 use lib.Bits.{bitAnd, bitOr, and-mask}
 use lib.ListN.{length, set, length-append}
@@ -16,22 +15,8 @@ use Rattle.peers.specs.Table.{blankPeer}
 use Rattle.peers.specs.declared.table.Peer.{Peer}
 use Rattle.peers.proofs.Lists.{pad-snoc}
 use Rattle.participant.specs.declared.record.Key.{Key}
-use Rattle.participant.specs.declared.record.Participant.{Participant}
-use Rattle.records.specs.Own.{namedOctets, timesOctets, keptOctets, ownOctets}
 use Rattle.records.specs.Peer.{peerOctets, peerAt, peerClean, peersAt, peersClean}
 use Rattle.records.specs.Key.{keyOctets}
-
-pub length-named : (p : Participant) → length (namedOctets p) ≡ 28
-unfolding namedOctets
-length-named p = simp (length-append, length-beOf, length-mi)
-
-pub length-times : (p : Participant) → length (timesOctets p) ≡ 28
-unfolding timesOctets
-length-times p = simp (length-append, length-beOf)
-
-pub length-own : (p : Participant) → length (p .ckn) ≡ 32 → length (p .wrapped) ≡ 24 → length (ownOctets p) ≡ 116
-unfolding ownOctets keptOctets
-length-own p ckn wrapped = simp (length-append, length-named, length-times, length-beOf, ckn, wrapped)
 
 pub length-peer : (p : Peer) → length (peerOctets p) ≡ 44
 unfolding peerOctets

@@ -1,4 +1,3 @@
-// The records of a port image: own, peer and key, each written and read at a place.
+// The records of peers and keys in a port image, each written and read at a place.
 pub mod key;
-pub mod own;
 pub mod peer;

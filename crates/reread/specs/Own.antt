@@ -20,8 +20,8 @@ use Rattle.peers.proofs.Lists.{both, first-of, second-of}
 use Rattle.participant.specs.Record.{first32, first24, setTable, setLatest, setOld}
 use Rattle.participant.specs.Keys.{noSlot}
 use Rattle.participant.specs.declared.record.Participant.{Participant}
-use Rattle.records.specs.Own.{namedOctets, timesOctets, keptOctets, ownOctets, ownAt, ownClean}
-use Rattle.records.proofs.Laws.{length-named, length-times}
+use Rattle.own.specs.Own.{namedOctets, timesOctets, keptOctets, ownOctets, ownAt, ownClean}
+use Rattle.own.proofs.Lengths.{length-named, length-times}
 use Rattle.reread.specs.Fit.{FitOwn}
 use Rattle.reread.specs.Cut.{cut, glue, length-cut, octet-cut, mi-cut, part-cut, filled, after-it}
 

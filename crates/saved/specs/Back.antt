@@ -23,7 +23,7 @@ use Rattle.participant.specs.Keys.{noSlot}
 use Rattle.participant.specs.declared.record.Participant.{Participant}
 use Rattle.layout.specs.Layout.{Part, recordsAt, offsetAt, laidOf, laidOut, partsFrom, partsIn}
 use Rattle.layout.proofs.Back.{PlacedFrom, laid-placed, laid-back}
-use Rattle.records.specs.Own.{namedOctets, timesOctets, keptOctets, ownOctets, ownAt, ownClean}
+use Rattle.own.specs.Own.{namedOctets, timesOctets, keptOctets, ownOctets, ownAt, ownClean}
 use Rattle.records.specs.Peer.{peersOctets, peerAt, peersAt, peersClean}
 use Rattle.records.specs.Key.{keyOctets, slotOctets, keyAt, slotAt, slotClean}
 use Rattle.records.proofs.Laws.{length-peersAt}

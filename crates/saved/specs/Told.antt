@@ -21,10 +21,11 @@ use Rattle.participant.specs.declared.record.Participant.{Participant}
 use Rattle.layout.specs.Layout.{Part, recordsAt, offsetAt, laidOf, bodies, laidOut}
 use Rattle.layout.proofs.Laws.{length-laid}
 use Rattle.layout.proofs.Round.{Matching, Told, ToldFrom, told, laid-round}
-use Rattle.records.specs.Own.{ownOctets, ownAt, ownClean}
+use Rattle.own.specs.Own.{ownOctets, ownAt, ownClean}
 use Rattle.records.specs.Peer.{peersOctets, peersAt, peersClean}
 use Rattle.records.specs.Key.{keyOctets, slotOctets, keyAt, keyClean, slotAt, slotClean}
-use Rattle.records.proofs.Laws.{length-own, length-key}
+use Rattle.records.proofs.Laws.{length-key}
+use Rattle.own.proofs.Lengths.{length-own}
 use Rattle.reread.specs.Fit.{FitKey}
 use Rattle.reread.specs.Own.{alone, own-stands}
 use Rattle.reread.specs.Peer.{AllTold, peers-stand}

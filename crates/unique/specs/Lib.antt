@@ -14,9 +14,11 @@ pub mod Reader
 pub mod Participant
 pub mod Questions
 pub mod Changes
+pub mod Hearing
 pub mod Receive
 pub mod Send
 pub mod Layout
+pub mod Own
 pub mod Records
 pub mod Rules
 pub mod Image

@@ -12,15 +12,6 @@ records·key·slot-at κs a z z′ e e′ h h′ = same h h′
 pub records·key·slot-clean : OneAnswer records.key.slot_clean.Kinds.ps records.key.slot_clean.Kinds.r records.key.slot_clean.Reads.Learnt
 records·key·slot-clean κs a z z′ e e′ h h′ = same h h′
 
-pub records·own·put-own : OneSeen records.own.put_own.Kinds.ps records.own.put_own.Kinds.r records.own.put_own.Reads.Learnt (λ κs z e. now (e .0))
-records·own·put-own κs a z z′ e e′ h h′ = same h h′
-
-pub records·own·own-at : OneAnswer records.own.own_at.Kinds.ps records.own.own_at.Kinds.r records.own.own_at.Reads.Learnt
-records·own·own-at κs a z z′ e e′ h h′ = same h h′
-
-pub records·own·own-clean : OneAnswer records.own.own_clean.Kinds.ps records.own.own_clean.Kinds.r records.own.own_clean.Reads.Learnt
-records·own·own-clean κs a z z′ e e′ h h′ = same h h′
-
 pub records·peer·put-peers : OneSeen records.peer.put_peers.Kinds.ps records.peer.put_peers.Kinds.r records.peer.put_peers.Reads.Learnt (λ κs z e. now (e .0))
 records·peer·put-peers κs a z z′ e e′ h h′ = same h h′
 

@@ -1,7 +1,7 @@
 use Rattle.image.specs.Read.{toldBy}
 use Rattle.records.specs.Key.{slotAt}
 use Rattle.records.specs.Peer.{peersAt}
-use Rattle.records.specs.Own.{ownAt}
+use Rattle.own.specs.Own.{ownAt}
 use Rattle.participant.specs.Record.{setTable, setLatest, setOld}
 use Rattle.peers.specs.Table.{tableOf}
 use lib.Dec.{ltb}

@@ -1,6 +1,7 @@
 use Rattle.page.specs.Show.{shownOf}
 use Rattle.page.specs.Text.{endedOf}
-use mathlib.Core.Path.{ap, sym, _∙_}
+use Rattle.participant.specs.declared.call.Answer.the-variants.{Done, Refused}
+use mathlib.Core.Path.{_≡_, ap, sym, _∙_}
 use borrow.Author.Needs.{needs}
 use Rattle.page.proofs.show.show.Statement.{statement}
 use Rattle.page.proofs.show.show.Tie as tie
@@ -25,13 +26,17 @@ refused-requires c κs = search needs
 
 returns : tie.Need-returns
 unfolding shownOf
-returns c = let e = sym (c .before .before .before .before .before .read .ensures) in
-    rw (e, c .before .before .before .enum-told .given .1) (c .ended .ensures ∙ ap endedOf (c .before .status .ensures))
+returns c =
+    let e = sym (c .before .before .before .before .before .read .ensures) in
+    let done : c .before .before .before .before .before .read .result .answer ≡ Done = c .before .before .before .enum-told .given .1 in
+    rw (e, done) (c .ended .ensures ∙ ap endedOf (c .before .status .ensures))
 
 returns-2 : tie.Need-returns-2
 unfolding shownOf
-returns-2 c = let e = sym (c .before .before .before .before .read .ensures) in
-    rw (e, c .before .before .a .given .1) (c .refused .ensures)
+returns-2 c =
+    let e = sym (c .before .before .before .before .read .ensures) in
+    let refused : c .before .before .before .before .read .result .answer ≡ Refused _ = c .before .before .a .given .1 in
+    rw (e, refused) (c .refused .ensures)
 
 pub show-spec : {M : Type 1} → statement M
 show-spec =

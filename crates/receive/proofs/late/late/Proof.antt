@@ -1,5 +1,5 @@
 use Rattle.receive.specs.Receive.{updatedBy, acceptedBy, settledBy}
-use Rattle.receive.specs.Proof.{provesIn}
+use Rattle.hearing.specs.Proof.{provesIn}
 use Rattle.facts.proofs.Laws.{check-failed, check-passed}
 use denote.Ref.{now}
 use mathlib.Core.Path.{_≡_, sym, _∙_}

@@ -1,8 +1,8 @@
 use Rattle.receive.proofs.Settled.{received-settled, settled-stale, settled-full, settled-good, stored, no-sak}
 use Rattle.receive.proofs.Laws as laws
 use Rattle.receive.specs.Receive.{refusalOf, refusedOf, acceptedOf, tableFacts, settledBy, receivedOf}
-use Rattle.receive.specs.Keys.{keyedOf}
-use Rattle.receive.specs.Proof.{provesIn}
+use Rattle.hearing.specs.Keys.{keyedOf}
+use Rattle.hearing.specs.Proof.{provesIn}
 use Rattle.participant.specs.declared.record.Participant.{Participant}
 use Rattle.peers.proofs.Lists.{drop-end}
 use Rattle.facts.proofs.Laws.{check-failed, check-passed}

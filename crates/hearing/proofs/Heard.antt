@@ -1,0 +1,107 @@
+-- The search for our identifier, and what the answers of the checks tell of the facts behind them.
+use Prim.Native.Nat.{ℕ, suc, _+_, _-_, _/_, _≤_, _<_}
+use mathlib.Core.Path.{_≡_, refl, ap, _∙_}
+use mathlib.Core.Bool.{Bool, true, false, cond, _||_, _&&_}
+use mathlib.Core.List.{List, [], _∷_}
+use native.Mathlib.Omega.{arith}
+use lib.ListN.{length, drop, length-drop}
+use lib.Seq.{drop-drop}
+use lib.Dec.{eqb, ltb}
+use Rattle.facts.specs.Facts.{firstOf}
+use Rattle.members.specs.Mi.{miSame}
+use Rattle.members.specs.declared.mi.Mi.{Mi}
+use Rattle.members.specs.declared.entry.Entry.{Entry}
+use Rattle.frame.specs.Basic.{bodyLen, basicLen, fact2, fact3, fact4, fact5, basicAnswer, basicOf}
+use Rattle.frame.specs.declared.basic.Basic.{Basic}
+use Rattle.frame.specs.declared.basic.BasicRead.the-variants as read
+use Rattle.sets.specs.declared.once.Spot.{Spot}
+use Rattle.walk.specs.List.{entriesFrom, listAt, entriesIn, seek}
+use Rattle.walk.specs.declared.list.Found.the-variants.{At, Nothing}
+use Rattle.walk.proofs.Lists.{length-entries}
+use Rattle.hearing.specs.Proof.{isRecent, anyRecent, namedIn}
+use Rattle.hearing.specs.Judge.{basicIn}
+
+-- ---- the search
+
+module _ (own : Mi) (sent : ℕ) where
+  pub seek-at : (i : ℕ) (l : List Entry) (j mn : ℕ) → seek own i l ≡ At j mn
+      → (i ≤ j) × (j < i + length l) × (anyRecent own sent l ≡ isRecent mn sent || anyRecent own sent (drop (j + 1 - i) l))
+  seek-at i [] j mn e = let z : _≡_ {A = ℕ} 0 1 = cc in absurd (omega arith)
+  seek-at i (x ∷ xs) j mn e = go (miSame (x .mi) own) (seek-at (i + 1) xs j mn) e
+    where
+      go : (t : Bool)
+          → (seek own (i + 1) xs ≡ At j mn → (i + 1 ≤ j) × (j < i + 1 + length xs) × (anyRecent own sent xs ≡ isRecent mn sent || anyRecent own sent (drop (j + 1 - (i + 1)) xs)))
+          → cond t (At i (x .mn)) (seek own (i + 1) xs) ≡ At j mn
+          → (i ≤ j) × (j < i + suc (length xs)) × ((t && isRecent (x .mn) sent) || anyRecent own sent xs ≡ isRecent mn sent || anyRecent own sent (drop (j + 1 - i) (x ∷ xs)))
+      go true later e′ =
+          let a : i ≡ j = cc in
+          let m : x .mn ≡ mn = cc in
+          let d : j + 1 - i ≡ 1 = omega arith in
+          (omega arith, omega arith, rw (m, d))
+      go false later e′ =
+          let r = later e′ in
+          let d : j + 1 - i ≡ suc (j + 1 - (i + 1)) = omega (arith, r .0) in
+          (omega (arith, r .0), omega (arith, r .1), rw d (r .2))
+
+  pub seek-none : (i : ℕ) (l : List Entry) → seek own i l ≡ Nothing → anyRecent own sent l ≡ false
+  seek-none i [] e = refl
+  seek-none i (x ∷ xs) e = go (miSame (x .mi) own) (seek-none (i + 1) xs) e
+    where
+      go : (t : Bool) → (seek own (i + 1) xs ≡ Nothing → anyRecent own sent xs ≡ false) → cond t (At i (x .mn)) (seek own (i + 1) xs) ≡ Nothing
+          → (t && isRecent (x .mn) sent) || anyRecent own sent xs ≡ false
+      go true later e′ = let z : _≡_ {A = ℕ} 0 1 = cc in absurd (omega arith)
+      go false later e′ = later e′
+
+  -- one entry with our identifier, of a list from index i on
+  pub named-next : (i : ℕ) (l : List Entry) (j mn : ℕ) → i ≤ length l → seek own i (drop i l) ≡ At j mn
+      → (i ≤ j) × (j < length l) × (anyRecent own sent (drop i l) ≡ isRecent mn sent || anyRecent own sent (drop (j + 1) l))
+  named-next i l j mn h e =
+      let a = seek-at i (drop i l) j mn e in
+      let n : length (drop i l) ≡ length l - i = length-drop i l in
+      let d : i + (j + 1 - i) ≡ j + 1 = omega (arith, a .0) in
+      (a .0, omega (arith, a .1), a .2 ∙ ap (λ (k : List Entry). isRecent mn sent || anyRecent own sent k) (drop-drop (j + 1 - i) i l ∙ ap (λ (k : ℕ). drop k l) d))
+
+cond-length : (t : Bool) (l : List Entry) (n : ℕ) → length l ≤ n → length (cond t [] l) ≤ n
+cond-length true l n h = omega arith
+cond-length false l n h = h
+
+pub entries-few : (s : List ℕ) (place len : ℕ) → length (entriesIn s place len) ≤ len / 16
+unfolding entriesIn listAt
+entries-few s place len = cond-length (ltb (length s) (place + (4 + len))) _ (len / 16) (let e = length-entries (len / 16) s (place + 4) in omega arith)
+
+-- a list without octets names nobody
+pub named-empty : (s : List ℕ) (list : Spot) (own : Mi) (sent : ℕ) → list .len ≡ 0 → false ≡ namedIn s list own sent
+unfolding namedIn entriesIn listAt entriesFrom
+named-empty s list own sent e = rw e (go (ltb (length s) (list .place + (4 + 0))))
+  where
+    go : (t : Bool) → false ≡ anyRecent own sent (cond t [] [])
+    go true = refl
+    go false = refl
+
+-- ---- facts 2 to 5
+
+four-good : (t2 t3 t4 t5 : Bool) (x b : Basic) → basicAnswer (firstOf ((2, t2) ∷ (3, t3) ∷ (4, t4) ∷ (5, t5) ∷ [])) x ≡ read.Read b
+    → (t2 ≡ false) × (t3 ≡ false) × (t4 ≡ false) × (t5 ≡ false) × (x ≡ b)
+four-good false false false false x b e = (refl, refl, refl, refl, cc)
+four-good true t3 t4 t5 x b e = let z : _≡_ {A = ℕ} 0 1 = cc in absurd (omega arith)
+four-good false true t4 t5 x b e = let z : _≡_ {A = ℕ} 0 1 = cc in absurd (omega arith)
+four-good false false true t5 x b e = let z : _≡_ {A = ℕ} 0 1 = cc in absurd (omega arith)
+four-good false false false true x b e = let z : _≡_ {A = ℕ} 0 1 = cc in absurd (omega arith)
+
+pub basic-good : (s : List ℕ) (b : Basic) → basicOf s ≡ read.Read b
+    → (fact2 s ≡ false) × (fact3 s ≡ false) × (fact4 (bodyLen s) ≡ false) × (fact5 (basicLen s) (bodyLen s) ≡ false) × (basicIn s ≡ b)
+unfolding basicOf
+basic-good s b e = four-good (fact2 s) (fact3 s) (fact4 (bodyLen s)) (fact5 (basicLen s) (bodyLen s)) (basicIn s) b e
+
+four-bad : (t2 t3 t4 t5 : Bool) (x : Basic) (n : ℕ) (more : List (ℕ × Bool)) → basicAnswer (firstOf ((2, t2) ∷ (3, t3) ∷ (4, t4) ∷ (5, t5) ∷ [])) x ≡ read.Refused n
+    → (firstOf ((2, t2) ∷ (3, t3) ∷ (4, t4) ∷ (5, t5) ∷ more) ≡ n) × (eqb n 0 ≡ false)
+four-bad true t3 t4 t5 x n more e = let m : 2 ≡ n = cc in (m, rw (← m))
+four-bad false true t4 t5 x n more e = let m : 3 ≡ n = cc in (m, rw (← m))
+four-bad false false true t5 x n more e = let m : 4 ≡ n = cc in (m, rw (← m))
+four-bad false false false true x n more e = let m : 5 ≡ n = cc in (m, rw (← m))
+four-bad false false false false x n more e = let z : _≡_ {A = ℕ} 0 1 = cc in absurd (omega arith)
+
+pub basic-bad : (s : List ℕ) (n : ℕ) (more : List (ℕ × Bool)) → basicOf s ≡ read.Refused n
+    → (firstOf ((2, fact2 s) ∷ (3, fact3 s) ∷ (4, fact4 (bodyLen s)) ∷ (5, fact5 (basicLen s) (bodyLen s)) ∷ more) ≡ n) × (eqb n 0 ≡ false)
+unfolding basicOf
+basic-bad s n more e = four-bad (fact2 s) (fact3 s) (fact4 (bodyLen s)) (fact5 (basicLen s) (bodyLen s)) (basicIn s) n more e

@@ -1,0 +1,11 @@
+use Rattle.hearing.specs.Keys.{keyFrom}
+use borrow.Author.Needs.{needs}
+use Rattle.hearing.proofs.keys.key_from.Statement.{statement}
+use Rattle.hearing.proofs.keys.key_from.Tie as tie
+
+returns : tie.Need-returns
+unfolding keyFrom
+returns c = search needs
+
+pub key-from-spec : {M : Type 1} → statement M
+key-from-spec = tie.close (tie.spec returns)

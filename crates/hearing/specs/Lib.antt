@@ -1,0 +1,3 @@
+pub mod Judge
+pub mod Proof
+pub mod Keys

@@ -31,7 +31,7 @@ use Rattle.receive.specs.Receive.{admitted, tableFacts, receiveFacts, updatedBy
 use Rattle.send.specs.Send.{sentAt}
 use Rattle.rules.specs.Rules.{only, useGood, keyGood, slotGood, keysGood}
 use Rattle.reread.specs.Fit.{FitKey}
-use Rattle.wellformed.specs.WellFormed.{TidySlot}
+use Rattle.saved.specs.WellFormed.{TidySlot}
 use Rattle.history.specs.Calls.{Creation, created, Call, receives, sends, distributes, ticks, renews, reports, asks, saves, after}
 use Rattle.history.specs.Steps.{facts, becomes}
 use Rattle.history.specs.Becomes.{updatedIn, by-keyed}

@@ -8,7 +8,7 @@ use Rattle.participant.specs.declared.call.Answer.the-variants.{Done}
 use Rattle.participant.proofs.Settle.{NoneHolds}
 use Rattle.rules.specs.Rules.{rules}
 use Rattle.rules.proofs.Laws.{kept-good}
-use Rattle.wellformed.specs.WellFormed.{WellFormed}
+use Rattle.saved.specs.WellFormed.{WellFormed}
 use Rattle.history.specs.Calls.{Creation, created, Call, after}
 use Rattle.history.specs.Steps.{facts, becomes}
 use Rattle.history.specs.Table.{Keeps, keeps-becomes, keeps}

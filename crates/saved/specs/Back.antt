@@ -33,7 +33,7 @@ use Rattle.reread.specs.Own.{own-back}
 use Rattle.reread.specs.Peer.{peers-back}
 use Rattle.reread.specs.Key.{key-back}
 use Rattle.rules.specs.Rules.{only, rules}
-use Rattle.wellformed.specs.WellFormed.{TidySlot, WellFormed}
+use Rattle.saved.specs.WellFormed.{TidySlot, WellFormed}
 use Rattle.image.specs.Image.{ownPart, peersPart, keysPart, imageOf}
 use Rattle.image.specs.Read.{sizes, numbersGood, keyPlace, clean, toldBy, wellFormed}
 use Rattle.saved.specs.Told.{size-small}

@@ -1,3 +1,4 @@
+pub mod WellFormed
 pub mod Told
 pub mod Back
 pub mod Saved

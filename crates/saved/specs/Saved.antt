@@ -12,7 +12,7 @@ use Rattle.participant.specs.Create.{nobody}
 use Rattle.participant.specs.declared.record.Participant.{Participant}
 use Rattle.participant.specs.declared.call.Answer.{Answer}
 use Rattle.participant.specs.declared.call.Answer.the-variants.{Done, Refused}
-use Rattle.wellformed.specs.WellFormed.{WellFormed}
+use Rattle.saved.specs.WellFormed.{WellFormed}
 use Rattle.image.specs.Image.{imageOf}
 use Rattle.image.specs.Read.{toldBy, wellFormed, readOf}
 use Rattle.saved.specs.Told as told

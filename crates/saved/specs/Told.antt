@@ -32,7 +32,7 @@ use Rattle.reread.specs.Peer.{AllTold, peers-stand}
 use Rattle.reread.specs.Key.{key-stands}
 use Rattle.rules.specs.Rules.{only, ownGood, peersGood, keysGood, rules}
 use Rattle.rules.proofs.Laws.{good-rules}
-use Rattle.wellformed.specs.WellFormed.{TidySlot, WellFormed}
+use Rattle.saved.specs.WellFormed.{TidySlot, WellFormed}
 use Rattle.image.specs.Image.{ownPart, peersPart, keysPart, imageOf}
 use Rattle.image.specs.Read.{sizes, numbersGood, keyPlace, clean, toldBy, wellFormed, readOf}
 use Rattle.image.proofs.Laws.{length-peers, length-slot, length-image}

@@ -1,1 +1,0 @@
-// What a well-formed participant is.

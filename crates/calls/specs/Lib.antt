@@ -1,2 +1,4 @@
+pub mod Settled
+pub mod Fields
 pub mod Received
 pub mod Never

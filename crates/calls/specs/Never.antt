@@ -10,12 +10,12 @@ use Rattle.members.specs.Mi.{miSame}
 use Rattle.participant.specs.declared.record.Participant.{Participant}
 use Rattle.participant.specs.Call.{settle, fact1, agedTo}
 use Rattle.participant.specs.Record.{first24}
-use Rattle.changes.specs.Distribute.{withFresh, distributedOf}
+use Rattle.distribute.specs.Distribute.{withFresh, distributedOf}
 use Rattle.participant.specs.declared.call.Answer.the-variants.{Done}
 use Rattle.participant.specs.declared.call.Called.{Called}
 use Rattle.participant.proofs.Settle.{none-holds, on-done}
-use Rattle.changes.proofs.Settled.{distributeFacts}
-use Rattle.hearing.specs.Judge.{basicIn, frameFacts}
+use Rattle.calls.specs.Settled.{distributeFacts}
+use Rattle.judge.specs.Judge.{basicIn, frameFacts}
 use Rattle.receive.specs.Receive.{tableFacts, receiveFacts}
 use Rattle.send.specs.Send.{sendFacts}
 use Rattle.calls.specs.Received.{accepted-none}

@@ -10,15 +10,15 @@ use Rattle.members.specs.Mi.{miAt, miOctets}
 use Rattle.members.specs.Entry.{entryAt}
 use Rattle.frame.specs.Basic.{basicFields, basicOf}
 use Rattle.frame.specs.Ours.{sameAt, fact6}
-use Rattle.sets.specs.Once.{holds, placesWith}
+use Rattle.places.specs.Once.{holds, placesWith}
 use Rattle.sets.specs.Set.{lenAt, listLen, badBody, badShape, badHead, badSet, extentOf}
 use Rattle.walk.specs.List.{entriesFrom, listAt, entriesIn}
 use Rattle.walk.specs.Walk.{walkGo, walkFrom, walkOf}
-use Rattle.peers.specs.Expiry.{rebuilt, expired}
-use Rattle.peers.specs.Look.{heldIn}
-use Rattle.peers.specs.Enter.{updated, replaced, enteredAt}
-use Rattle.peers.specs.Table.{emptyTable, pushed}
-use Rattle.election.specs.Counts.{liveCount, liveList, potentialList}
+use Rattle.table.specs.Expiry.{rebuilt, expired}
+use Rattle.lookup.specs.Look.{heldIn}
+use Rattle.enter.specs.Enter.{updated, replaced, enteredAt}
+use Rattle.table.specs.Table.{emptyTable, pushed}
+use Rattle.counts.specs.Counts.{liveCount, liveList, potentialList}
 use Rattle.election.specs.Elect.{elected}
 use Rattle.election.specs.declared.elect.Server.the-variants.{Nobody, Ourselves, Elected}
 use Rattle.writer.specs.Frame.{headerOctets, fixedOctets, cknOctets, basicOctets, listSet, listOctets, bodyOctets, frameOf}
@@ -28,7 +28,7 @@ use Rattle.participant.specs.Create.{fresh, nobody, createdOf}
 use Rattle.participant.specs.Record.{setMn}
 use Rattle.participant.specs.Keys.{noSlot, ofMember}
 use Rattle.participant.specs.declared.record.Participant.{Participant}
-use Rattle.hearing.specs.Judge.{frameFacts}
+use Rattle.judge.specs.Judge.{frameFacts}
 use Rattle.hearing.specs.Keys.{keyedOf}
 use Rattle.hearing.specs.Proof.{isRecent, namedIn, provesIn}
 use Rattle.receive.specs.Receive.{heardOf, admitted, tableFacts, receiveFacts, updatedBy, acceptedBy, receivedOf}
@@ -37,7 +37,7 @@ use Rattle.send.specs.Send.{frameAt, sendFacts, sentAt, sentOf, leftBy}
 use Rattle.layout.specs.Layout.{headOf, entryOf, bodies, laidOf}
 use Rattle.layout.specs.Layout as layout
 use Rattle.own.specs.Own.{namedOctets, timesOctets, keptOctets, ownOctets}
-use Rattle.records.specs.Peer.{peersOctets}
+use Rattle.peer.specs.Peer.{peersOctets}
 use Rattle.image.specs.Image.{ownPart, peersPart, keysPart, imageOf}
 use Rattle.history.specs.Calls.{Call, created, called, received, receives, sends, ticks, after}
 use Rattle.cases.specs.Row.{Row, row, Outcome, accepted, refused, octets, number, yes-no, elects, ended, basicEnded}

@@ -8,7 +8,8 @@ use Rattle.election.specs.declared.elect.Server.{Server}
 use Rattle.participant.specs.declared.call.Answer.the-variants as onCall
 use Rattle.receive.specs.declared.receive.Answer.the-variants as onReceive
 use Rattle.send.specs.declared.send.Answer.the-variants as onSend
-use Rattle.history.specs.Calls.{Answer, received, sent, called, shown}
+use Rattle.writer.specs.declared.mkpdu.Wrote.the-variants as onWrite
+use Rattle.history.specs.Calls.{Answer, received, sent, called, shown, saved}
 
 -- What comes out.
 pub data Outcome : Type 0 where
@@ -36,6 +37,8 @@ ended (sent (onSend.Refused n) out) = refused n
 ended (called onCall.Done) = accepted
 ended (called (onCall.Refused n)) = refused n
 ended (shown p) = accepted
+ended (saved (onWrite.Octets n) out) = number n
+ended (saved (onWrite.Refused n) out) = refused n
 
 -- How the reading of a Basic set comes out.
 abbrev pub basicEnded : BasicRead → Outcome

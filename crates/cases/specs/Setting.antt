@@ -4,9 +4,9 @@ use mathlib.Core.Bool.{Bool, true, false}
 use mathlib.Core.List.{List, [], _∷_, _++_}
 use lib.ListN.{length, replicate}
 use Rattle.members.specs.declared.mi.Mi.{Mi}
-use Rattle.peers.specs.Table.{tableOf}
-use Rattle.peers.specs.declared.table.Peer.{Peer}
-use Rattle.peers.specs.Look.{heldIn, liveFor, potentialFor}
+use Rattle.table.specs.Table.{tableOf}
+use Rattle.table.specs.declared.table.Peer.{Peer}
+use Rattle.lookup.specs.Look.{heldIn, liveFor, potentialFor}
 use Rattle.participant.specs.Record.{setClock, setTable}
 use Rattle.participant.specs.declared.record.Participant.{Participant}
 use Rattle.history.specs.Calls.{Creation, Call, sends, after, answerOf}

@@ -1,3 +1,2 @@
-pub mod Distribute
 pub mod Renew
 pub mod Report

@@ -5,7 +5,7 @@ use mathlib.Core.List.{[], _∷_}
 use lib.ListN.{replicate}
 use Rattle.members.specs.Mi.{miSame}
 use Rattle.members.specs.declared.mi.Mi.{Mi}
-use Rattle.peers.specs.Table.{emptyTable}
+use Rattle.table.specs.Table.{emptyTable}
 use Rattle.participant.specs.declared.record.Participant.{Participant}
 use Rattle.participant.specs.declared.call.Called.{Called}
 use Rattle.participant.specs.Record.{setMi, setMn, setKn, setMark, setWrapped, setSent, setDistributed, setTable, setClock}

@@ -1,5 +1,4 @@
-// The calls that hear and send nothing: distribute, tick, a new MI, reports.
-pub mod distribute;
+// The calls that change the participant alone: tick, a new MI, reports.
 pub mod renew;
 pub mod report;
 pub mod tick;

@@ -8,21 +8,21 @@ use lib.ListN.{length}
 use lib.Dec.{eqb}
 use borrow.Author.Tests.{eqb-true, eq-eqb}
 use Rattle.members.specs.declared.mi.Mi.{Mi}
-use Rattle.peers.specs.declared.table.Peer.{Peer}
-use Rattle.peers.specs.declared.table.Table.{Table}
+use Rattle.table.specs.declared.table.Peer.{Peer}
+use Rattle.table.specs.declared.table.Table.{Table}
 use Rattle.election.specs.declared.elect.Rank.{Rank}
 use Rattle.election.specs.declared.elect.Lead.{Lead}
 use Rattle.election.specs.declared.elect.Lead.the-variants.{Neither, By}
 use Rattle.election.specs.declared.elect.Server.{Server}
 use Rattle.election.specs.declared.elect.Server.the-variants.{Nobody, Ourselves, Elected}
-use Rattle.peers.specs.Lists.{those}
-use Rattle.peers.specs.Table.{entries}
-use Rattle.peers.specs.Look.{isLive, heldIn, liveFor}
-use Rattle.election.specs.Counts.{liveCount}
+use Rattle.lists.specs.Lists.{those}
+use Rattle.table.specs.Table.{entries}
+use Rattle.lookup.specs.Look.{isLive, heldIn, liveFor}
+use Rattle.counts.specs.Counts.{liveCount}
 use Rattle.election.specs.Elect.{lower, rankOf, mayLead, eligible, contenders, candidates, challenged, leader, leadStep, serverOf, startOf, elected}
-use Rattle.peers.specs.Kept.{absent, distinct}
-use Rattle.peers.proofs.Lists.{by-cases, clash, never, first-of, mem-those, those-mem, mem-map, map-mem}
-use Rattle.peers.proofs.Apart.{absent-clash, held-member}
+use Rattle.table.specs.Kept.{absent, distinct}
+use Rattle.lists.specs.Laws.{by-cases, clash, never, first-of, mem-those, those-mem, mem-map, map-mem}
+use Rattle.kept.specs.Apart.{absent-clash, held-member}
 use Rattle.election.proofs.Order.{lower-ntrans, lower-asym, lower-irrefl, lower-total}
 
 -- a Live peer with the flag may be elected unless its priority is 255

@@ -1,4 +1,3 @@
 -- The laws that the layers above cite.
-pub mod Listing
 pub mod Order
 pub mod Least

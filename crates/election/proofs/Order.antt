@@ -8,7 +8,7 @@ use lib.Dec.{ltb}
 use borrow.Author.Tests.{lt-ltb, le-ltb, ltb-true, ltb-false}
 use Rattle.election.specs.declared.elect.Rank.{Rank}
 use Rattle.election.specs.Elect.{lex, lower}
-use Rattle.peers.proofs.Lists.{by-cases, clash}
+use Rattle.lists.specs.Laws.{by-cases, clash}
 
 lex-false : (x y : ℕ) (r : Bool) → lex x y r ≡ false → (y < x) ⊎ ((x ≡ y) × (r ≡ false))
 lex-false x y r e =

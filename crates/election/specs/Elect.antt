@@ -4,17 +4,17 @@ use mathlib.Core.Bool.{Bool, true, false, cond, not, _&&_}
 use mathlib.Core.List.{List, [], _∷_, map}
 use lib.Dec.{ltb, eqb}
 use Rattle.members.specs.declared.mi.Mi.{Mi}
-use Rattle.peers.specs.declared.table.Peer.{Peer}
-use Rattle.peers.specs.declared.table.Table.{Table}
+use Rattle.table.specs.declared.table.Peer.{Peer}
+use Rattle.table.specs.declared.table.Table.{Table}
 use Rattle.election.specs.declared.elect.Rank.{Rank}
 use Rattle.election.specs.declared.elect.Lead.{Lead}
 use Rattle.election.specs.declared.elect.Lead.the-variants.{Neither, By}
 use Rattle.election.specs.declared.elect.Server.{Server}
 use Rattle.election.specs.declared.elect.Server.the-variants.{Nobody, Ourselves, Elected}
-use Rattle.peers.specs.Lists.{those}
-use Rattle.peers.specs.Table.{entries}
-use Rattle.peers.specs.Look.{isLive}
-use Rattle.election.specs.Counts.{liveCount}
+use Rattle.lists.specs.Lists.{those}
+use Rattle.table.specs.Table.{entries}
+use Rattle.lookup.specs.Look.{isLive}
+use Rattle.counts.specs.Counts.{liveCount}
 
 -- x below y, or x the same and then the rest
 abbrev pub lex : ℕ → ℕ → Bool → Bool

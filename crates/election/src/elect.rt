@@ -1,9 +1,8 @@
 // Who is Key Server.
-use crate::counts;
 use members::mi::Mi;
-use peers::table::Peer;
-use peers::table::ROOM;
-use peers::table::Table;
+use table::table::Peer;
+use table::table::ROOM;
+use table::table::Table;
 ghost use mathlib.Core.Path.{_≡_};
 ghost use Rattle.election.specs.Elect.{lowerMi, lower, rankOf, mayLead, eligible, challenged, leadStep, serverOf, startOf, elected};
 
@@ -140,7 +139,7 @@ fn start(own: Rank) -> Lead
 pub fn elect(t: Table, own: Rank) -> Server
     ensures { λ x. ⌜ x ≡ elected own t ⌝ }
 {
-    if counts::live_count(t) == 0 {
+    if counts::counts::live_count(t) == 0 {
         return Server::Nobody;
     }
     let peers = t.peers;

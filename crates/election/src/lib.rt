@@ -1,3 +1,2 @@
-// The Live and the Potential peers, counted and listed, and who is Key Server.
-pub mod counts;
+// Who is Key Server.
 pub mod elect;

@@ -9,7 +9,7 @@ use Rattle.election.specs.declared.elect.Server.{Server}
 use Rattle.election.specs.declared.elect.Server.the-variants.{Nobody, Ourselves, Elected}
 use Rattle.sets.specs.Kinds.{sakIn}
 use Rattle.sets.specs.declared.kinds.SakHeader.{SakHeader}
-use Rattle.sets.specs.declared.once.Spot.{Spot}
+use Rattle.places.specs.declared.once.Spot.{Spot}
 use Rattle.questions.specs.Ask.{serverOf}
 use Rattle.participant.specs.Keys.{ofMember, isKey, withKey, withoutKeys}
 use Rattle.participant.specs.declared.record.Key.{Key}

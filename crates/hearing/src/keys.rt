@@ -5,10 +5,10 @@ use members::mi::Mi;
 use participant::keys;
 use participant::record::Key;
 use participant::record::Participant;
+use places::once::Spot;
 use questions::ask;
 use sets::kinds;
 use sets::kinds::SakHeader;
-use sets::once::Spot;
 ghost use mathlib.Core.Path.{_≡_};
 ghost use Rattle.hearing.specs.Keys.{isServer, isKnown, keyFrom, noKeyEntered, keyedOf};
 

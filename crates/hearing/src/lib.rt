@@ -1,4 +1,3 @@
-// What a received frame says to us: facts 1 to 9, whether it proves, its Distributed SAK.
-pub mod judge;
+// What a good frame says to us: whether it proves, and its Distributed SAK.
 pub mod keys;
 pub mod proof;

@@ -9,18 +9,18 @@ use lib.Dec.{eqb}
 use borrow.Author.Tests.{ltb-false}
 use Rattle.members.specs.declared.mi.Mi.{Mi}
 use Rattle.sets.specs.Kinds.{sakIn}
-use Rattle.sets.specs.declared.once.Spot.{Spot}
-use Rattle.peers.specs.Expiry.{expired}
-use Rattle.peers.specs.Enter.{entered}
-use Rattle.peers.proofs.Lists.{by-cases}
+use Rattle.places.specs.declared.once.Spot.{Spot}
+use Rattle.table.specs.Expiry.{expired}
+use Rattle.enter.specs.Enter.{entered}
+use Rattle.lists.specs.Laws.{by-cases}
 use Rattle.participant.specs.Call.{agedTo}
 use Rattle.participant.specs.Record.{setLatest, setOld}
 use Rattle.changes.specs.Renew.{renewed}
-use Rattle.changes.specs.Distribute.{withFresh}
+use Rattle.distribute.specs.Distribute.{withFresh}
 use Rattle.participant.specs.Keys.{withKey, withoutKeys}
 use Rattle.participant.specs.declared.record.Participant.{Participant}
 use Rattle.participant.proofs.Settle.{NoneHolds}
-use Rattle.hearing.specs.Judge.{basicIn, walkIn, placesIn, frameFacts}
+use Rattle.judge.specs.Judge.{basicIn, walkIn, placesIn, frameFacts}
 use Rattle.hearing.specs.Keys.{isServer, isKnown, keyFrom, keyedOf}
 use Rattle.hearing.specs.Proof.{provesIn}
 use Rattle.receive.specs.Receive.{heardOf, admitted, receiveFacts, updatedBy, acceptedBy}

@@ -8,20 +8,25 @@ use lib.ListN.{length}
 use Rattle.members.specs.declared.mi.Mi.{Mi}
 use Rattle.participant.specs.Call.{ticked}
 use Rattle.participant.specs.Create.{createdOf}
-use Rattle.changes.specs.Distribute.{distributedOf}
+use Rattle.distribute.specs.Distribute.{distributedOf}
 use Rattle.changes.specs.Renew.{newMiOf}
 use Rattle.changes.specs.Report.{reported}
 use Rattle.participant.specs.declared.record.Participant.{Participant}
 use Rattle.participant.specs.declared.call.Called.{Called}
 use Rattle.participant.specs.declared.call.Answer as call
 use Rattle.participant.specs.declared.call.Answer.the-variants as onCall
-use Rattle.hearing.specs.Judge.{basicIn}
+use Rattle.judge.specs.Judge.{basicIn}
 use Rattle.receive.specs.Receive.{receivedOf}
 use Rattle.receive.specs.declared.receive.Answer as receive
 use Rattle.receive.specs.declared.receive.Answer.the-variants as onReceive
 use Rattle.send.specs.Send.{sentOf, leftBy}
 use Rattle.send.specs.declared.send.Answer as send
 use Rattle.send.specs.declared.send.Answer.the-variants as onSend
+use Rattle.octets.specs.Run.{written}
+use Rattle.writer.specs.Frame.{wroteOf}
+use Rattle.writer.specs.declared.mkpdu.Wrote.{Wrote}
+use Rattle.writer.specs.declared.mkpdu.Wrote.the-variants as onWrite
+use Rattle.image.specs.Image.{imageOf}
 
 -- "Creating takes a time, MI, SCI, priority, capability, desired flag and CKN"
 pub record Creation : Type 0 where
@@ -52,13 +57,13 @@ pub data Call : Type 0 where
   -- the lent octets
   saves : List ℕ → Call
 
--- What a call gives back. A question and a save leave the participant as it is, also a save that its room refuses (13): what both
--- show is made of the participant, and for a history both count as accepted.
+-- What a call gives back, with what it leaves in lent octets. What a question shows is made of the participant.
 pub data Answer : Type 0 where
   received : receive.Answer → Answer
   sent : send.Answer → List ℕ → Answer
   called : call.Answer → Answer
   shown : Participant → Answer
+  saved : Wrote → List ℕ → Answer
 
 abbrev pub answerOf : Participant → Call → Answer
 answerOf p (receives time verdict frame) = received (receivedOf p time verdict frame .answer)
@@ -68,7 +73,7 @@ answerOf p (ticks time) = called (ticked p time .answer)
 answerOf p (renews time m) = called (newMiOf p time m .answer)
 answerOf p (reports m kn transmit) = called (reported p m kn transmit .answer)
 answerOf p asks = shown p
-answerOf p (saves out) = shown p
+answerOf p (saves out) = saved (wroteOf (length (imageOf p)) (length out)) (written out (imageOf p))
 
 -- The participant that a call gives back.
 abbrev pub answered : Participant → Call → Participant
@@ -90,6 +95,8 @@ isAccepted (sent (onSend.Refused n) out) = false
 isAccepted (called onCall.Done) = true
 isAccepted (called (onCall.Refused n)) = false
 isAccepted (shown p) = true
+isAccepted (saved (onWrite.Octets n) out) = true
+isAccepted (saved (onWrite.Refused n) out) = false
 
 abbrev pub accepts : Participant → Call → Bool
 accepts p c = isAccepted (answerOf p c)

@@ -8,14 +8,14 @@ use lib.Dec.{eqb}
 use borrow.Author.Tests.{not-false, eqb-false}
 use Rattle.members.specs.declared.mi.Mi.{Mi}
 use Rattle.sets.specs.Kinds.{sakIn}
-use Rattle.sets.specs.declared.once.Spot.{Spot}
+use Rattle.places.specs.declared.once.Spot.{Spot}
 use Rattle.sets.specs.declared.kinds.SakHeader.{SakHeader}
-use Rattle.peers.specs.Kept.{Kept}
-use Rattle.peers.specs.Look.{heldIn, liveFor}
+use Rattle.table.specs.Kept.{Kept}
+use Rattle.lookup.specs.Look.{heldIn, liveFor}
 use Rattle.election.specs.declared.elect.Server.{Server}
 use Rattle.election.specs.declared.elect.Server.the-variants.{Nobody, Ourselves, Elected}
-use Rattle.peers.proofs.Lists.{by-cases, clash, first-of}
-use Rattle.peers.proofs.Same.{same-eq}
+use Rattle.lists.specs.Laws.{by-cases, clash, first-of}
+use Rattle.kept.specs.Same.{same-eq}
 use Rattle.election.proofs.Least.{elected-live}
 use Rattle.questions.specs.Ask.{ownRank, serverOf, electedSelf, settledDown, freshDue}
 use Rattle.participant.specs.Call.{agedTo}
@@ -23,13 +23,13 @@ use Rattle.participant.specs.Create.{fresh}
 use Rattle.participant.specs.Record.{first24}
 use Rattle.changes.specs.Renew.{renewed}
 use Rattle.changes.specs.Report.{installed}
-use Rattle.changes.specs.Distribute.{nextAn, confidentialityOf, freshKey, withFresh}
+use Rattle.distribute.specs.Distribute.{nextAn, confidentialityOf, freshKey, withFresh}
 use Rattle.participant.specs.Keys.{noSlot, withKey, withoutKeys}
 use Rattle.participant.specs.declared.record.Key.{Key}
 use Rattle.participant.specs.declared.record.Slot.{Slot}
 use Rattle.participant.specs.declared.record.Participant.{Participant}
 use Rattle.participant.specs.declared.call.Answer.the-variants.{Done}
-use Rattle.hearing.specs.Judge.{basicIn, walkIn, placesIn}
+use Rattle.judge.specs.Judge.{basicIn, walkIn, placesIn}
 use Rattle.hearing.specs.Keys.{isPeer, isServer, keyFrom}
 use Rattle.receive.specs.Receive.{admitted, updatedBy, acceptedBy}
 use Rattle.send.specs.Send.{sentAt}

@@ -12,14 +12,14 @@ use Rattle.members.specs.Mi.{miSame}
 use Rattle.members.specs.declared.mi.Mi.{Mi}
 use Rattle.members.specs.declared.entry.Entry.{Entry}
 use Rattle.walk.specs.List.{entriesIn}
-use Rattle.peers.specs.Expiry.{lifeTime, freshAt}
-use Rattle.peers.specs.Kept.{agedProof, isSome}
-use Rattle.peers.specs.Look.{heldIn, liveFor}
-use Rattle.peers.proofs.Lists.{by-cases, never, clash, both, first-of, second-of}
-use Rattle.peers.proofs.Same.{same-eq, same-refl}
+use Rattle.table.specs.Expiry.{lifeTime, freshAt}
+use Rattle.kept.specs.Proved.{agedProof, isSome}
+use Rattle.lookup.specs.Look.{heldIn, liveFor}
+use Rattle.lists.specs.Laws.{by-cases, never, clash, both, first-of, second-of}
+use Rattle.kept.specs.Same.{same-eq, same-refl}
 use Rattle.participant.specs.declared.record.Participant.{Participant}
 use Rattle.participant.specs.declared.call.Answer.the-variants.{Done}
-use Rattle.hearing.specs.Judge.{basicIn, walkIn, placesIn}
+use Rattle.judge.specs.Judge.{basicIn, walkIn, placesIn}
 use Rattle.hearing.specs.Proof.{isRecent, anyRecent, namedIn, provesIn}
 use Rattle.history.specs.Calls.{Creation, created, Call, receives, sends, distributes, ticks, renews, reports, asks, saves, after, accepted, identifier, numbersSent, Made, NoneTaken}
 use Rattle.history.specs.Steps.{accepted-none}

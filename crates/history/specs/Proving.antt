@@ -7,23 +7,23 @@ use mathlib.Core.Option.{Option, none, some}
 use borrow.Author.Tests.{ltb-false}
 use Rattle.members.specs.Mi.{miSame}
 use Rattle.members.specs.declared.mi.Mi.{Mi}
-use Rattle.peers.specs.Expiry.{expired}
-use Rattle.peers.specs.Kept.{provedAt, agedProof, isSome}
-use Rattle.peers.specs.Look.{heldIn, liveFor}
-use Rattle.peers.specs.Enter.{entered}
-use Rattle.peers.specs.Table.{emptyTable}
-use Rattle.peers.proofs.Lists.{by-cases}
-use Rattle.peers.proofs.Same.{same-eq}
-use Rattle.peers.proofs.Aging.{whole-tidy, fresh-now, tidy-expired}
-use Rattle.peers.proofs.Proving.{live-proved, proof-later, proved-expired, proved-own, proved-other}
+use Rattle.table.specs.Expiry.{expired}
+use Rattle.kept.specs.Proved.{provedAt, agedProof, isSome}
+use Rattle.lookup.specs.Look.{heldIn, liveFor}
+use Rattle.enter.specs.Enter.{entered}
+use Rattle.table.specs.Table.{emptyTable}
+use Rattle.lists.specs.Laws.{by-cases}
+use Rattle.kept.specs.Same.{same-eq}
+use Rattle.table.proofs.Aging.{whole-tidy, fresh-now, tidy-expired}
+use Rattle.kept.specs.Proving.{live-proved, proof-later, proved-expired, proved-own, proved-other}
 use Rattle.participant.specs.Call.{agedTo}
 use Rattle.changes.specs.Renew.{renewed}
-use Rattle.changes.specs.Distribute.{withFresh}
+use Rattle.distribute.specs.Distribute.{withFresh}
 use Rattle.participant.specs.Keys.{withKey}
 use Rattle.participant.specs.declared.record.Participant.{Participant}
 use Rattle.participant.proofs.Settle.{NoneHolds}
-use Rattle.changes.proofs.Fields.{create-empty}
-use Rattle.hearing.specs.Judge.{basicIn, frameFacts}
+use Rattle.calls.specs.Fields.{create-empty}
+use Rattle.judge.specs.Judge.{basicIn, frameFacts}
 use Rattle.receive.specs.Receive.{heardOf, tableFacts, receiveFacts}
 use Rattle.send.specs.Send.{sendFacts, sentAt}
 use Rattle.history.specs.Calls.{Creation, created, Call, receives, sends, distributes, ticks, renews, reports, asks, saves, after, over}

@@ -15,15 +15,15 @@ use Rattle.members.specs.Mi.{miOctets}
 use Rattle.members.proofs.Laws.{Fitting, length-mi, mi-stands}
 use Rattle.packed.specs.Basic.{octetOf}
 use Rattle.frame.specs.Basic.{basicFields}
-use Rattle.peers.proofs.Lists.{by-cases, first-of, second-of}
+use Rattle.lists.specs.Laws.{by-cases, first-of, second-of}
 use Rattle.writer.specs.Frame.{headerOctets, senderFlags, fixedOctets, cknOf, basicOctets, bodyOctets, frameOf}
 use Rattle.writer.specs.declared.mkpdu.Mkpdu.{Mkpdu}
 use Rattle.writer.proofs.Laws.{length-header}
 use Rattle.participant.specs.Call.{agedTo}
 use Rattle.participant.specs.declared.record.Participant.{Participant}
 use Rattle.participant.proofs.Settle.{NoneHolds}
-use Rattle.changes.proofs.Fields.{create-empty}
-use Rattle.hearing.specs.Judge.{basicIn}
+use Rattle.calls.specs.Fields.{create-empty}
+use Rattle.judge.specs.Judge.{basicIn}
 use Rattle.hearing.specs.Proof.{isRecent}
 use Rattle.send.specs.Message.{senderOf, messageOf}
 use Rattle.send.specs.Send.{frameAt, sendFacts, leftBy}

@@ -9,8 +9,8 @@ use Rattle.participant.specs.declared.record.Participant.{Participant}
 use Rattle.participant.specs.declared.call.Called.{Called}
 use Rattle.participant.specs.declared.call.Answer.the-variants.{Done}
 use Rattle.participant.proofs.Settle.{on-done}
-use Rattle.changes.proofs.Settled.{create-settles}
-use Rattle.peers.proofs.Lists.{by-cases, never}
+use Rattle.calls.specs.Settled.{create-settles}
+use Rattle.lists.specs.Laws.{by-cases, never}
 use lib.ListN.{length}
 use Rattle.history.specs.Calls.{Creation, created, Call, renews, answered, from, after, accepts, accepted, over, taken, handed, identifier, keysDistributed, Made, NoneTaken}
 use Rattle.history.specs.Steps.{becomes, refused-leaves, accepted-becomes}

@@ -4,20 +4,20 @@ use mathlib.Core.Path.{_≡_, refl, sym, _∙_}
 use mathlib.Core.Bool.{Bool, true, false, cond}
 use mathlib.Core.List.{List, [], _∷_}
 use lib.ListN.{length}
-use lib.Dec.{eqb}
+use lib.Dec.{eqb, ltb}
 use borrow.Author.Tests.{eqb-true}
 use Rattle.facts.specs.Facts.{firstOf}
 use Rattle.participant.specs.Call.{fact1, agedTo, ticked}
 use Rattle.participant.specs.Record.{first24, setLatest}
 use Rattle.changes.specs.Renew.{renewed, newMiOf}
 use Rattle.changes.specs.Report.{installed, reported}
-use Rattle.changes.specs.Distribute.{withFresh, distributedOf}
+use Rattle.distribute.specs.Distribute.{withFresh, distributedOf}
 use Rattle.participant.specs.declared.record.Participant.{Participant}
 use Rattle.participant.specs.declared.call.Called.{Called}
 use Rattle.participant.specs.declared.call.Answer.the-variants.{Done, Refused}
 use Rattle.participant.proofs.Settle.{NoneHolds, numbered, none-holds}
-use Rattle.changes.proofs.Settled.{distributeFacts, newMiFacts, reportFacts}
-use Rattle.hearing.specs.Judge.{basicIn, walkIn, placesIn, frameFacts}
+use Rattle.calls.specs.Settled.{distributeFacts, newMiFacts, reportFacts}
+use Rattle.judge.specs.Judge.{basicIn, walkIn, placesIn, frameFacts}
 use Rattle.receive.specs.Receive.{tableFacts, receiveFacts, acceptedBy, acceptedOf, receivedOf}
 use Rattle.receive.specs.Receive as receive
 use Rattle.receive.specs.declared.receive.Received.{Received}
@@ -26,7 +26,10 @@ use Rattle.send.specs.Send.{frameAt, sendFacts, sentAt, sentOf, leftBy}
 use Rattle.send.specs.Send as send
 use Rattle.send.specs.declared.send.Sent.{Sent}
 use Rattle.send.specs.declared.send.Answer.the-variants.{Octets}
-use Rattle.history.specs.Calls.{Call, receives, sends, distributes, ticks, renews, reports, asks, saves, received, sent, called, answered, isAccepted, accepts}
+use Rattle.writer.specs.declared.mkpdu.Wrote.the-variants as onWrite
+use Rattle.octets.specs.Run.{written}
+use Rattle.image.specs.Image.{imageOf}
+use Rattle.history.specs.Calls.{Call, receives, sends, distributes, ticks, renews, reports, asks, saves, received, sent, called, saved, answered, isAccepted, accepts}
 
 -- The facts that refuse a call, in their order.
 abbrev pub facts : Participant → Call → List (ℕ × Bool)
@@ -37,7 +40,7 @@ facts p (ticks time) = (1, fact1 p time) ∷ []
 facts p (renews time m) = (1, fact1 p time) ∷ newMiFacts p m
 facts p (reports m kn transmit) = reportFacts p m kn transmit
 facts p asks = []
-facts p (saves out) = []
+facts p (saves out) = (13, ltb (length out) (length (imageOf p))) ∷ []
 
 -- What the participant becomes where none holds.
 abbrev pub becomes : Participant → Call → Participant
@@ -50,7 +53,7 @@ becomes p (reports m kn transmit) = setLatest (installed (p .latest) transmit) p
 becomes p asks = p
 becomes p (saves out) = p
 
--- the three kinds of answer, by the test whether the first fact's number is 0
+-- the kinds of answer, by the test whether the first fact's number is 0
 received-cases : (t : Bool) (p : Participant) (n : ℕ) (k : Keyed) → let r : Received = cond t (acceptedOf k) (receive.refusedOf p n) in
     (isAccepted (received (r .answer)) ≡ t) × (r .participant ≡ cond t (k .participant) p)
 received-cases true p n k = (refl, refl)
@@ -67,6 +70,11 @@ called-cases : (t : Bool) (p q : Participant) (n : ℕ) → let r : Called = con
 called-cases true p q n = (refl, refl)
 called-cases false p q n = (refl, refl)
 
+saved-cases : (t : Bool) (p : Participant) (n : ℕ) (out : List ℕ) → let s = eqb (firstOf ((13, t) ∷ [])) 0 in
+    (isAccepted (saved (cond t (onWrite.Refused 13) (onWrite.Octets n)) out) ≡ s) × (p ≡ cond s p p)
+saved-cases true p n out = (refl, refl)
+saved-cases false p n out = (refl, refl)
+
 module _ (p : Participant) where
   -- a call is accepted exactly where no fact holds, and then becomes; else nothing changes
   settles : (c : Call) → let t = eqb (firstOf (facts p c)) 0 in (accepts p c ≡ t) × (answered p c ≡ cond t (becomes p c) p)
@@ -80,7 +88,7 @@ module _ (p : Participant) where
   settles (renews time m) = let n = firstOf (facts p (renews time m)) in called-cases (eqb n 0) p _ n
   settles (reports m kn transmit) = let n = firstOf (facts p (reports m kn transmit)) in called-cases (eqb n 0) p _ n
   settles asks = (refl, refl)
-  settles (saves out) = (refl, refl)
+  settles (saves out) = saved-cases (ltb (length out) (length (imageOf p))) p (length (imageOf p)) (written out (imageOf p))
 
   facts-numbered : (c : Call) → numbered (facts p c) ≡ true
   unfolding receiveFacts frameFacts tableFacts sendFacts

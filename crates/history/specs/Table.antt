@@ -5,24 +5,24 @@ use mathlib.Core.Bool.{true}
 use mathlib.Core.List.{List, [], _∷_, _++_, List·Memᴰ, List·Memᴰ·head, Memᴰ·append-right}
 use lib.ListN.{length}
 use borrow.Author.Tests.{ltb-false}
-use Rattle.peers.specs.Kept.{Kept, absent, distinct}
-use Rattle.peers.specs.Table.{entries}
-use Rattle.peers.specs.Expiry.{expired}
-use Rattle.peers.specs.declared.table.Peer.{Peer}
-use Rattle.peers.specs.declared.table.Table.{Table}
-use Rattle.peers.proofs.Lists.{first-of, second-of}
-use Rattle.peers.proofs.Aging.{at-most-16, count-tidy}
-use Rattle.peers.proofs.Apart.{absent-clash}
-use Rattle.peers.proofs.Keeping.{kept-empty, kept-expired, kept-entered}
+use Rattle.table.specs.Kept.{Kept, absent, distinct}
+use Rattle.table.specs.Table.{entries}
+use Rattle.table.specs.Expiry.{expired}
+use Rattle.table.specs.declared.table.Peer.{Peer}
+use Rattle.table.specs.declared.table.Table.{Table}
+use Rattle.lists.specs.Laws.{first-of, second-of}
+use Rattle.table.proofs.Aging.{at-most-16, count-tidy}
+use Rattle.kept.specs.Apart.{absent-clash}
+use Rattle.kept.specs.Keeping.{kept-empty, kept-expired, kept-entered}
 use Rattle.participant.specs.Call.{agedTo}
 use Rattle.changes.specs.Renew.{renewed}
-use Rattle.changes.specs.Distribute.{withFresh}
+use Rattle.distribute.specs.Distribute.{withFresh}
 use Rattle.participant.specs.Keys.{withKey}
 use Rattle.participant.specs.declared.record.Participant.{Participant}
 use Rattle.participant.specs.declared.call.Answer.the-variants.{Done}
 use Rattle.participant.proofs.Settle.{NoneHolds}
-use Rattle.changes.proofs.Fields.{create-empty}
-use Rattle.hearing.specs.Judge.{basicIn, frameFacts}
+use Rattle.calls.specs.Fields.{create-empty}
+use Rattle.judge.specs.Judge.{basicIn, frameFacts}
 use Rattle.receive.specs.Receive.{heardOf, tableFacts, receiveFacts}
 use Rattle.send.specs.Send.{sendFacts, sentAt}
 use Rattle.history.specs.Calls.{Creation, created, Call, receives, sends, distributes, ticks, renews, reports, asks, saves, after, identifier}

@@ -11,22 +11,22 @@ use Rattle.members.specs.Entry.{entryAt}
 use Rattle.members.specs.declared.mi.Mi.{Mi}
 use Rattle.frame.specs.Basic.{basicFields}
 use Rattle.frame.specs.Ours.{sameAt, fact6}
-use Rattle.sets.specs.Once.{holds, placesWith}
+use Rattle.places.specs.Once.{holds, placesWith}
 use Rattle.sets.specs.Set.{lenAt, listLen, badBody, badShape, badHead, badSet, extentOf}
 use Rattle.walk.specs.List.{entriesFrom, listAt, entriesIn}
 use Rattle.walk.specs.Walk.{walkGo, walkFrom, walkOf}
-use Rattle.peers.specs.Expiry.{rebuilt, expired}
-use Rattle.peers.specs.Look.{heldIn, liveFor, potentialFor}
-use Rattle.peers.specs.Enter.{updated, replaced, enteredAt}
-use Rattle.peers.specs.Table.{emptyTable, pushed}
-use Rattle.election.specs.Counts.{liveCount, liveList, potentialList}
+use Rattle.table.specs.Expiry.{rebuilt, expired}
+use Rattle.lookup.specs.Look.{heldIn, liveFor, potentialFor}
+use Rattle.enter.specs.Enter.{updated, replaced, enteredAt}
+use Rattle.table.specs.Table.{emptyTable, pushed}
+use Rattle.counts.specs.Counts.{liveCount, liveList, potentialList}
 use Rattle.election.specs.Elect.{elected}
 use Rattle.writer.specs.Frame.{headerOctets, fixedOctets, cknOctets, basicOctets, listSet, listOctets, bodyOctets, frameOf}
 use Rattle.questions.specs.Ask.{serverOf, electedSelf}
 use Rattle.participant.specs.Call.{agedTo, ticked}
 use Rattle.participant.specs.Create.{fresh, nobody, createdOf}
 use Rattle.participant.specs.Keys.{noSlot, ofMember}
-use Rattle.hearing.specs.Judge.{frameFacts}
+use Rattle.judge.specs.Judge.{frameFacts}
 use Rattle.hearing.specs.Keys.{keyedOf}
 use Rattle.hearing.specs.Proof.{isRecent, namedIn, provesIn}
 use Rattle.receive.specs.Receive.{heardOf, admitted, tableFacts, receiveFacts, updatedBy, acceptedBy, receivedOf}

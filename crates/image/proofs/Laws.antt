@@ -7,17 +7,18 @@ use lib.ListN.{length, length-append, length-take}
 use lib.Seq.{sets}
 use Rattle.octets.proofs.Stores.{sets-on, length-runs}
 use Rattle.packed.specs.Bit.{bit}
-use Rattle.peers.specs.Table.{entries}
-use Rattle.peers.specs.declared.table.Table.{Table}
-use Rattle.peers.proofs.Lists.{by-cases}
+use Rattle.table.specs.Table.{entries}
+use Rattle.table.specs.declared.table.Table.{Table}
+use Rattle.lists.specs.Laws.{by-cases}
 use Rattle.participant.specs.declared.record.Slot.{Slot}
 use Rattle.participant.specs.declared.record.Participant.{Participant}
 use Rattle.layout.specs.Layout.{headOf, entryOf, entriesFrom, bodies, laidOf}
 use Rattle.layout.proofs.Laws.{length-head, length-entry}
 use Rattle.own.specs.Own.{ownOctets}
-use Rattle.records.specs.Peer.{peerOctets, peersOctets}
-use Rattle.records.specs.Key.{keyOctets, slotOctets}
-use Rattle.records.proofs.Laws.{length-peer, length-key}
+use Rattle.peer.specs.Peer.{peerOctets, peersOctets}
+use Rattle.key.specs.Key.{keyOctets, slotOctets}
+use Rattle.peer.proofs.Laws.{length-peer}
+use Rattle.key.proofs.Laws.{length-key}
 use Rattle.own.proofs.Lengths.{length-own}
 use Rattle.image.specs.Image.{ownPart, peersPart, keysPart, contentsFor, imageOf}
 

@@ -3,12 +3,12 @@ use Prim.Native.Nat.{ℕ, _+_, _*_}
 use mathlib.Core.List.{List, [], _∷_, _++_}
 use lib.ListN.{length}
 use Rattle.packed.specs.Bit.{bit}
-use Rattle.peers.specs.Table.{entries}
+use Rattle.table.specs.Table.{entries}
 use Rattle.participant.specs.declared.record.Participant.{Participant}
 use Rattle.layout.specs.Layout.{Part, headOf, entryOf, laidOf}
 use Rattle.own.specs.Own.{ownOctets}
-use Rattle.records.specs.Peer.{peersOctets}
-use Rattle.records.specs.Key.{slotOctets}
+use Rattle.peer.specs.Peer.{peersOctets}
+use Rattle.key.specs.Key.{slotOctets}
 
 -- Kind 1: one own record.
 unfoldable pub ownPart : Participant → Part

@@ -1,3 +1,2 @@
-// The saved port image of a participant: its rules, written and read.
-pub mod read;
+// The saved port image of a participant, written.
 pub mod write;

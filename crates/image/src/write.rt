@@ -4,9 +4,7 @@ use own::record;
 use packed::bit;
 use participant::record::Participant;
 use participant::record::Slot;
-use peers::table::ROOM;
-use records::key;
-use records::peer;
+use table::table::ROOM;
 use writer::mkpdu::Wrote;
 ghost use mathlib.Core.Path.{_≡_};
 ghost use Prim.Native.Nat.{_+_, _*_, _≤_, min};
@@ -50,8 +48,8 @@ pub fn write(out: &mut [u8], p: Participant) -> Wrote
     }
     put_contents(out, n, bit::bit_of(latest.held) + bit::bit_of(old.held));
     record::put_own(out, 28, p);
-    peer::put_peers(out, 144, t);
-    key::put_slot(out, keys, latest);
-    key::put_slot(out, next, old);
+    peer::peer::put_peers(out, 144, t);
+    key::key::put_slot(out, keys, latest);
+    key::key::put_slot(out, next, old);
     Wrote::Octets(total)
 }

@@ -5,7 +5,6 @@ use octets::run;
 use packed::bit;
 use participant::keys;
 use participant::record::Participant;
-use peers::table;
 ghost use mathlib.Core.Path.{_≡_};
 ghost use Prim.Native.Nat.{_+_, _<_, _^_};
 ghost use lib.Seq.{sets};
@@ -92,7 +91,7 @@ pub fn own_at(s: &[u8], place: u32) -> Participant
         size: number::u32_at(s, at + 56) as usize,
         ckn: ckn_at(s, at + 60),
         wrapped: wrapped_at(s, at + 92),
-        table: table::empty(),
+        table: table::table::empty(),
         latest: keys::empty(),
         old: keys::empty(),
     }

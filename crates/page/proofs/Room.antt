@@ -10,9 +10,9 @@ use Rattle.octets.proofs.Laws.{sets-append}
 use Rattle.page.specs.Text.{ascii, room, lineOf, endedOf}
 use native.Mathlib.Omega.{arith}
 use lib.ListN.{length, length-append, replicate, set}
-use Rattle.election.specs.Counts.{liveCount, potentialCount}
-use Rattle.peers.proofs.Aging.{at-most-16}
-use Rattle.election.proofs.Listing.{live-potential}
+use Rattle.counts.specs.Counts.{liveCount, potentialCount}
+use Rattle.table.proofs.Aging.{at-most-16}
+use Rattle.counts.proofs.Listing.{live-potential}
 use Rattle.participant.specs.declared.record.Participant.{Participant}
 use Rattle.questions.specs.Ask.{serverOf}
 use Rattle.page.specs.Status.{keyText, statusText}

@@ -8,7 +8,7 @@ use lib.Seq.{sets}
 use Rattle.octets.proofs.Stores.{sets-on}
 use Rattle.election.specs.declared.elect.Server.{Server}
 use Rattle.election.specs.declared.elect.Server.the-variants.{Nobody, Ourselves, Elected}
-use Rattle.election.specs.Counts.{liveCount, potentialCount}
+use Rattle.counts.specs.Counts.{liveCount, potentialCount}
 use Rattle.questions.specs.Ask.{serverOf}
 use Rattle.participant.specs.declared.record.Participant.{Participant}
 use Rattle.page.specs.Text.{ascii, decimalOf}

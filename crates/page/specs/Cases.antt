@@ -4,9 +4,9 @@ use mathlib.Core.Path.{_≡_, refl}
 use mathlib.Core.Bool.{Bool, true, false}
 use mathlib.Core.List.{[], _∷_}
 use Rattle.members.specs.declared.mi.Mi.{Mi}
-use Rattle.peers.specs.declared.table.Peer.{Peer}
-use Rattle.peers.specs.Table.{tableOf, emptyTable}
-use Rattle.election.specs.Counts.{liveCount, potentialCount}
+use Rattle.table.specs.declared.table.Peer.{Peer}
+use Rattle.table.specs.Table.{tableOf, emptyTable}
+use Rattle.counts.specs.Counts.{liveCount, potentialCount}
 use Rattle.election.specs.Elect.{elected}
 use Rattle.participant.specs.declared.record.Participant.{Participant}
 use Rattle.participant.specs.Record.{setMn, setKn, setTable, setLatest}

@@ -4,7 +4,7 @@ use Prim.Native.Nat.{ℕ}
 use Rattle.participant.specs.declared.call.Answer.{Answer}
 use Rattle.participant.specs.declared.call.Answer.the-variants.{Done, Refused}
 use Rattle.participant.specs.declared.record.Participant.{Participant}
-use Rattle.image.specs.Read.{readOf}
+use Rattle.reading.specs.Read.{readOf}
 use Rattle.page.specs.declared.line.Line.{Line}
 use Rattle.page.specs.Text.{lineOf, endedOf, refusedText}
 use Rattle.page.specs.Status.{statusText}

@@ -2,8 +2,8 @@
 use crate::line;
 use crate::line::Line;
 use crate::status;
-use image::read;
 use participant::call::Answer;
+use reading::read;
 ghost use mathlib.Core.Path.{_≡_};
 ghost use Rattle.page.specs.Show.{shownOf};
 

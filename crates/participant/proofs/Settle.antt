@@ -8,7 +8,7 @@ use native.Mathlib.Omega.{arith}
 use lib.Dec.{eqb}
 use borrow.Author.Tests.{eq-eqb, ne-eqb, eqb-true, eqb-false, ltb-false, not-true}
 use Rattle.facts.specs.Facts.{firstOf}
-use Rattle.peers.proofs.Lists.{by-cases, never, clash, first-of, second-of}
+use Rattle.lists.specs.Laws.{by-cases, never, clash, first-of, second-of}
 use Rattle.participant.specs.declared.record.Participant.{Participant}
 use Rattle.participant.specs.declared.call.Called.{Called}
 use Rattle.participant.specs.declared.call.Answer.the-variants.{Done, Refused}

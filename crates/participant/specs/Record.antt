@@ -5,7 +5,7 @@ use Prim.Native.Nat.{ℕ}
 use lib.ListN.{replicate}
 use lib.Seq.{sets}
 use Rattle.members.specs.declared.mi.Mi.{Mi}
-use Rattle.peers.specs.declared.table.Table.{Table}
+use Rattle.table.specs.declared.table.Table.{Table}
 use Rattle.participant.specs.declared.record.Slot.{Slot}
 use Rattle.participant.specs.declared.record.Participant.{Participant}
 

@@ -1,6 +1,6 @@
 // What a call answers, beside what the participant becomes.
 use crate::record::Participant;
-use peers::expiry;
+use table::expiry;
 ghost use mathlib.Core.Path.{_≡_};
 ghost use Rattle.participant.specs.Call.{doneOf, refusedOf, agedTo};
 

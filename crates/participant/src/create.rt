@@ -6,7 +6,6 @@ use crate::record::Participant;
 use facts::Check;
 use members::mi::Mi;
 use octets::run;
-use peers::table;
 ghost use mathlib.Core.Path.{_≡_};
 ghost use Rattle.participant.specs.Create.{nobody, badStart, fresh, createdOf};
 ghost use Rattle.participant.specs.Record.{first32};
@@ -30,7 +29,7 @@ pub fn blank() -> Participant
         size: 0,
         ckn: [0u8; 32],
         wrapped: [0u8; 24],
-        table: table::empty(),
+        table: table::table::empty(),
         latest: keys::empty(),
         old: keys::empty(),
     }

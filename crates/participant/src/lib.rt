@@ -1,4 +1,4 @@
-// One participant by value, and the calls that hear and send nothing.
+// One participant by value: its record, its keys, its creation.
 pub mod call;
 pub mod create;
 pub mod keys;

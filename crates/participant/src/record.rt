@@ -1,6 +1,6 @@
 // The record of one participant: plain numbers, flags, arrays and structs.
 use members::mi::Mi;
-use peers::table::Table;
+use table::table::Table;
 
 // A key on record; `receive` and `transmit` are what the host reported of it.
 #[repr(C)]

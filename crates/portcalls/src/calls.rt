@@ -5,7 +5,6 @@ use crate::state;
 use crate::state::Played;
 use crate::state::State;
 use crate::status;
-use changes::distribute;
 use changes::renew;
 use changes::report;
 use changes::tick;
@@ -135,7 +134,7 @@ fn hand_out(s: State, d: &[u8], out: &mut [u8]) -> Played {
         return none(s, out);
     }
     let p = s.participant;
-    let r = distribute::distribute(p, number::u64_at(d, 0), &d[8..]);
+    let r = distribute::distribute::distribute(p, number::u64_at(d, 0), &d[8..]);
     let a = r.answer;
     match a {
         Answer::Done => {

@@ -1,12 +1,12 @@
 // One call, played again and again on the same participant. What comes back goes into a sum, so that no play is idle.
 use crate::setup;
-use image::read;
 use image::write;
 use octets::number;
 use octets::run;
 use participant::call::Answer;
 use participant::call::Called;
 use participant::record::Participant;
+use reading::read;
 use receive::receive::Answer as Heard;
 use receive::receive::Received;
 use send::send::Answer as Sending;

@@ -1,5 +1,4 @@
 // The calls that make the participant. Each payload is that of a call script's record; a send has room enough.
-use changes::distribute;
 use members::mi;
 use members::mi::Mi;
 use octets::number;
@@ -44,7 +43,7 @@ pub(crate) fn called(p: Participant, op: u8, d: &[u8]) -> Participant {
             r.participant
         }
         4 => {
-            let r = distribute::distribute(p, number::u64_at(d, 0), rest(d, 8));
+            let r = distribute::distribute::distribute(p, number::u64_at(d, 0), rest(d, 8));
             r.participant
         }
         _ => p,

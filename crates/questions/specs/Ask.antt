@@ -6,8 +6,8 @@ use Rattle.election.specs.declared.elect.Rank.{Rank}
 use Rattle.election.specs.declared.elect.Server.{Server}
 use Rattle.election.specs.declared.elect.Server.the-variants.{Nobody, Ourselves, Elected}
 use Rattle.election.specs.Elect.{elected}
-use Rattle.peers.specs.Expiry.{freshAt}
-use Rattle.election.specs.Counts.{potentialCount}
+use Rattle.table.specs.Expiry.{freshAt}
+use Rattle.counts.specs.Counts.{potentialCount}
 use Rattle.participant.specs.declared.record.Participant.{Participant}
 
 abbrev pub ownRank : Participant → Rank

@@ -1,15 +1,14 @@
 // The questions, which go by the clock and change nothing.
-use election::counts;
 use election::elect;
 use election::elect::Rank;
 use election::elect::Server;
+use lookup::look;
 use members::mi::Mi;
 use participant::record::Participant;
-use peers::expiry;
-use peers::look;
+use table::expiry;
 ghost use mathlib.Core.Path.{_≡_};
-ghost use Rattle.election.specs.Counts.{liveCount, potentialCount};
-ghost use Rattle.peers.specs.Look.{heldIn, liveFor, potentialFor};
+ghost use Rattle.counts.specs.Counts.{liveCount, potentialCount};
+ghost use Rattle.lookup.specs.Look.{heldIn, liveFor, potentialFor};
 ghost use Rattle.questions.specs.Ask.{ownRank, serverOf, electedSelf, settledDown, freshDue, helloDue};
 
 // The hello time in milliseconds.
@@ -53,8 +52,8 @@ fn settled_down(p: Participant) -> bool
     if !expiry::fresh(p.clock, p.distributed) {
         return true;
     }
-    let t = p.table;
-    counts::potential_count(t) == 0
+    let table = p.table;
+    counts::counts::potential_count(table) == 0
 }
 
 pub fn fresh_due(p: Participant) -> bool
@@ -100,12 +99,12 @@ pub fn live_count(p: Participant) -> usize
     ensures { λ r. ⌜ r ≡ liveCount (p .table) ⌝ }
 {
     let t = p.table;
-    counts::live_count(t)
+    counts::counts::live_count(t)
 }
 
 pub fn potential_count(p: Participant) -> usize
     ensures { λ r. ⌜ r ≡ potentialCount (p .table) ⌝ }
 {
     let t = p.table;
-    counts::potential_count(t)
+    counts::counts::potential_count(t)
 }

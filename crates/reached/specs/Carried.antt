@@ -3,7 +3,7 @@ use Prim.Native.Nat.{_^_, _<_}
 use mathlib.Core.List.{List, [], _∷_}
 use Rattle.octets.proofs.Laws.{Octets}
 use Rattle.members.proofs.Laws.{Fitting}
-use Rattle.peers.proofs.Lists.{by-cases}
+use Rattle.lists.specs.Laws.{by-cases}
 use Rattle.participant.specs.declared.record.Participant.{Participant}
 use Rattle.participant.proofs.Settle.{NoneHolds}
 use Rattle.history.specs.Calls.{Creation, Call, receives, sends, distributes, ticks, renews, reports, asks, saves, after, accepted}

@@ -11,21 +11,21 @@ use Rattle.members.specs.Mi.{miSame}
 use Rattle.members.specs.declared.mi.Mi.{Mi}
 use Rattle.members.proofs.Laws.{Fitting}
 use Rattle.sets.proofs.Laws.{or-false}
-use Rattle.peers.proofs.Lists.{by-cases, clash, both, first-of, second-of}
-use Rattle.peers.proofs.Same.{same-eq, same-refl, same-sym}
+use Rattle.lists.specs.Laws.{by-cases, clash, both, first-of, second-of}
+use Rattle.kept.specs.Same.{same-eq, same-refl, same-sym}
 use Rattle.participant.specs.Call.{agedTo}
 use Rattle.participant.specs.Create.{fresh}
 use Rattle.changes.specs.Renew.{taken, renewed}
 use Rattle.changes.specs.Report.{misreported, installed}
-use Rattle.changes.specs.Distribute.{confidentialityOf, freshKey, withFresh}
+use Rattle.distribute.specs.Distribute.{confidentialityOf, freshKey, withFresh}
 use Rattle.participant.specs.Keys.{noSlot, slotOf, ofMember, isKey, withKey, withoutKeys}
 use Rattle.participant.specs.declared.record.Key.{Key}
 use Rattle.participant.specs.declared.record.Slot.{Slot}
 use Rattle.participant.specs.declared.record.Participant.{Participant}
 use Rattle.participant.specs.declared.call.Answer.the-variants.{Done}
 use Rattle.participant.proofs.Settle.{NoneHolds}
-use Rattle.changes.proofs.Fields.{an-below}
-use Rattle.hearing.specs.Judge.{basicIn, frameFacts}
+use Rattle.calls.specs.Fields.{an-below}
+use Rattle.judge.specs.Judge.{basicIn, frameFacts}
 use Rattle.hearing.specs.Keys.{isKnown, keyFrom, keyedOf}
 use Rattle.receive.specs.Receive.{admitted, tableFacts, receiveFacts, updatedBy, acceptedBy}
 use Rattle.send.specs.Send.{sentAt}

@@ -10,18 +10,18 @@ use lib.Dec.{eqb, ltb}
 use borrow.Author.Tests.{le-leb, ltb-false, eqb-false, ne-eqb}
 use Rattle.members.proofs.Laws.{Fitting}
 use Rattle.sets.proofs.Laws.{or-false}
-use Rattle.peers.proofs.Lists.{both}
+use Rattle.lists.specs.Laws.{both}
 use Rattle.participant.specs.Call.{agedTo}
 use Rattle.participant.specs.Create.{badStart, fresh, nobody}
 use Rattle.participant.specs.Record.{first32}
 use Rattle.changes.specs.Renew.{renewed}
-use Rattle.changes.specs.Distribute.{withFresh}
+use Rattle.distribute.specs.Distribute.{withFresh}
 use Rattle.participant.specs.Keys.{withKey}
 use Rattle.participant.specs.declared.record.Participant.{Participant}
 use Rattle.participant.specs.declared.call.Called.{Called}
 use Rattle.participant.specs.declared.call.Answer.the-variants.{Done}
 use Rattle.participant.proofs.Settle.{NoneHolds, on-done}
-use Rattle.changes.proofs.Settled.{create-settles}
+use Rattle.calls.specs.Settled.{create-settles}
 use Rattle.receive.specs.Receive.{admitted, updatedBy}
 use Rattle.send.specs.Send.{sendFacts, sentAt}
 use Rattle.rules.specs.Rules.{zeros, unsentZero, undistributedZero, unusedZero, ownGood}

@@ -9,28 +9,28 @@ use Rattle.octets.proofs.Laws.{Octets, beAt-lt}
 use Rattle.members.specs.Mi.{miAt, miSame}
 use Rattle.members.proofs.Laws.{Fitting}
 use Rattle.frame.specs.Basic.{basicFields}
-use Rattle.peers.specs.Lists.{every}
-use Rattle.peers.specs.Table.{blankPeer, entries}
-use Rattle.peers.specs.Expiry.{freshPeer, lapsed, agedPeer, agedList, expired}
-use Rattle.peers.specs.Enter.{updated, enterList, entered}
-use Rattle.peers.specs.Look.{heldIn, noRoomFor}
-use Rattle.peers.specs.Kept.{Tidy}
-use Rattle.peers.specs.declared.enter.Heard.{Heard}
-use Rattle.peers.specs.declared.table.Peer.{Peer}
-use Rattle.peers.specs.declared.table.Table.{Table}
-use Rattle.peers.proofs.Lists.{by-cases}
-use Rattle.peers.proofs.Aging.{aged-same, whole-tidy, tidy-expired, entries-empty, entries-expired}
-use Rattle.peers.proofs.Entering.{entries-entered}
-use Rattle.peers.proofs.Keeping.{every-aged, every-entered}
+use Rattle.lists.specs.Lists.{every}
+use Rattle.table.specs.Table.{blankPeer, entries}
+use Rattle.table.specs.Expiry.{freshPeer, lapsed, agedPeer, agedList, expired}
+use Rattle.enter.specs.Enter.{updated, enterList, entered}
+use Rattle.lookup.specs.Look.{heldIn, noRoomFor}
+use Rattle.table.specs.Kept.{Tidy}
+use Rattle.enter.specs.declared.enter.Heard.{Heard}
+use Rattle.table.specs.declared.table.Peer.{Peer}
+use Rattle.table.specs.declared.table.Table.{Table}
+use Rattle.lists.specs.Laws.{by-cases}
+use Rattle.table.proofs.Aging.{aged-same, whole-tidy, tidy-expired, entries-empty, entries-expired}
+use Rattle.kept.specs.Entering.{entries-entered}
+use Rattle.kept.specs.Keeping.{every-aged, every-entered}
 use Rattle.participant.specs.Call.{agedTo}
 use Rattle.participant.specs.Create.{fresh}
 use Rattle.changes.specs.Renew.{renewed}
-use Rattle.changes.specs.Distribute.{withFresh}
+use Rattle.distribute.specs.Distribute.{withFresh}
 use Rattle.participant.specs.Keys.{withKey}
 use Rattle.participant.specs.declared.record.Participant.{Participant}
 use Rattle.participant.specs.declared.call.Answer.the-variants.{Done}
 use Rattle.participant.proofs.Settle.{NoneHolds}
-use Rattle.hearing.specs.Judge.{basicIn, frameFacts}
+use Rattle.judge.specs.Judge.{basicIn, frameFacts}
 use Rattle.receive.specs.Receive.{heardOf, tableFacts, receiveFacts}
 use Rattle.send.specs.Send.{sentAt}
 use Rattle.rules.specs.Rules.{twoBits}

@@ -2,7 +2,7 @@
 use mathlib.Core.Path.{_≡_}
 use mathlib.Core.Bool.{true}
 use mathlib.Core.List.{List, []}
-use Rattle.peers.proofs.Lists.{both}
+use Rattle.lists.specs.Laws.{both}
 use Rattle.participant.specs.declared.record.Participant.{Participant}
 use Rattle.participant.specs.declared.call.Answer.the-variants.{Done}
 use Rattle.participant.proofs.Settle.{NoneHolds}

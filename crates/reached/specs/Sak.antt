@@ -11,13 +11,13 @@ use Rattle.facts.specs.Facts.{paddedOf}
 use Rattle.octets.specs.Number.{beAt}
 use Rattle.octets.proofs.Laws.{Octets, beAt-lt}
 use Rattle.sets.specs.Kinds.{sakAt, sakIn}
-use Rattle.sets.specs.Once.{noPlaces, placesWith}
+use Rattle.places.specs.Once.{noPlaces, placesWith}
 use Rattle.sets.specs.Set.{lenAt, badBody, badShape, badHead, badSet}
-use Rattle.sets.specs.declared.once.Places.{Places}
+use Rattle.places.specs.declared.once.Places.{Places}
 use Rattle.sets.proofs.Laws.{or-false, head-room, good-head}
 use Rattle.walk.specs.Walk.{nextAt, placesAfter, walkGo, walkFrom, walkOf}
-use Rattle.peers.proofs.Lists.{by-cases, clash, second-of}
-use Rattle.hearing.specs.Judge.{basicIn, placesIn}
+use Rattle.lists.specs.Laws.{by-cases, clash, second-of}
+use Rattle.judge.specs.Judge.{basicIn, placesIn}
 use Rattle.history.specs.Keys.{sakSpot, sakRead}
 
 -- "The key number (KN) is not zero in a type 4 body that isn't empty."

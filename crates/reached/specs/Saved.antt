@@ -4,7 +4,7 @@ use mathlib.Core.List.{List}
 use Rattle.participant.specs.Call.{doneOf}
 use Rattle.participant.specs.declared.call.Answer.the-variants.{Done}
 use Rattle.image.specs.Image.{imageOf}
-use Rattle.image.specs.Read.{readOf}
+use Rattle.reading.specs.Read.{readOf}
 use Rattle.saved.specs.Saved.{reads-back}
 use Rattle.history.specs.Calls.{Call, Creation, created, after}
 use Rattle.reached.specs.Carried.{Given, AllCarried}

@@ -15,9 +15,9 @@ use Rattle.frame.specs.declared.basic.Basic.{Basic}
 use Rattle.frame.specs.declared.basic.BasicRead.{BasicRead}
 use Rattle.frame.specs.declared.basic.BasicRead.the-variants.{Read, Refused as Unread}
 use Rattle.sets.specs.Kinds.{typeOf}
-use Rattle.sets.specs.Once.{noPlaces, placesWith}
+use Rattle.places.specs.Once.{noPlaces, placesWith}
 use Rattle.sets.specs.Set.{lenAt, badSet, setFields, extentOf}
-use Rattle.sets.specs.declared.once.Places.{Places}
+use Rattle.places.specs.declared.once.Places.{Places}
 use Rattle.sets.specs.declared.set.Set.{Set}
 use Rattle.sets.proofs.Laws.{type-kind, extent-least}
 use Rattle.walk.specs.Walk.{nextAt, placesAfter, walkGo, walkFrom, walkOf}

@@ -8,7 +8,7 @@ use Rattle.frame.specs.Basic.{basicOf}
 use Rattle.frame.specs.declared.basic.Basic.{Basic}
 use Rattle.frame.specs.declared.basic.BasicRead.{BasicRead}
 use Rattle.frame.specs.declared.basic.BasicRead.the-variants.{Read, Refused as Unread}
-use Rattle.sets.specs.Once.{noPlaces}
+use Rattle.places.specs.Once.{noPlaces}
 use Rattle.sets.specs.Set.{badSet, setFields}
 use Rattle.walk.specs.Walk.{nextAt, placesAfter}
 use Rattle.reader.specs.declared.step.Position.{Position}

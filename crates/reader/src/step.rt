@@ -1,9 +1,9 @@
 // One step over the sets of a frame, by value: what is read at a position, and the position after it.
 use frame::basic;
 use frame::basic::BasicRead;
+use places::once;
+use places::once::Places;
 use sets::kinds;
-use sets::once;
-use sets::once::Places;
 use sets::set;
 use sets::set::Set;
 use sets::set::SetRead;

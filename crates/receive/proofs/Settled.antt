@@ -7,25 +7,25 @@ use lib.ListN.{set}
 use Rattle.members.specs.Mi.{miSame}
 use Rattle.members.specs.declared.mi.Mi.{Mi}
 use Rattle.frame.specs.declared.basic.Basic.{Basic}
-use Rattle.sets.specs.declared.once.Spot.{Spot}
-use Rattle.sets.specs.declared.once.Places.{Places}
-use Rattle.peers.specs.Table.{entries}
-use Rattle.peers.specs.Expiry.{steadyIn}
-use Rattle.peers.specs.Look.{heldIn, staleFor, noRoomFor, becomesLive}
-use Rattle.peers.specs.Enter.{updated, placeFor, grownBy}
-use Rattle.peers.specs.Kept.{heldPeer}
-use Rattle.peers.specs.declared.table.Table.{Table}
-use Rattle.peers.specs.declared.look.Held.{Held}
-use Rattle.peers.proofs.Aging.{expired-steady}
-use Rattle.peers.proofs.InPlace.{in-place}
+use Rattle.places.specs.declared.once.Spot.{Spot}
+use Rattle.places.specs.declared.once.Places.{Places}
+use Rattle.table.specs.Table.{entries}
+use Rattle.table.specs.Expiry.{steadyIn}
+use Rattle.lookup.specs.Look.{heldIn, staleFor, noRoomFor, becomesLive}
+use Rattle.enter.specs.Enter.{updated, placeFor, grownBy}
+use Rattle.enter.specs.Enter.{heldPeer}
+use Rattle.table.specs.declared.table.Table.{Table}
+use Rattle.lookup.specs.declared.look.Held.{Held}
+use Rattle.table.proofs.Aging.{expired-steady}
+use Rattle.kept.specs.InPlace.{in-place}
 use Rattle.participant.specs.Record.{setMark, setClock, setTable}
 use Rattle.participant.specs.Call.{agedTo}
 use Rattle.participant.specs.declared.record.Participant.{Participant}
 use Rattle.hearing.specs.Proof.{provesIn}
-use Rattle.hearing.specs.Judge.{judgedOf}
+use Rattle.judge.specs.Judge.{judgedOf}
 use Rattle.hearing.specs.Keys.{keyedOf}
 use Rattle.receive.specs.Receive.{heardOf, admitted, heldAt, tableFacts, refusedOf, acceptedOf, updatedBy, acceptedBy, settledBy, receivedOf}
-use Rattle.hearing.specs.declared.judge.Judged.the-variants as judged
+use Rattle.judge.specs.declared.judge.Judged.the-variants as judged
 use Rattle.receive.specs.declared.receive.Answer.the-variants.{Accepted}
 use Rattle.receive.proofs.Laws.{judged-good}
 

@@ -6,21 +6,21 @@ use lib.Dec.{eqb}
 use Rattle.facts.specs.Facts.{firstOf}
 use Rattle.members.specs.Mi.{miSame}
 use Rattle.frame.specs.declared.basic.Basic.{Basic}
-use Rattle.sets.specs.declared.once.Places.{Places}
-use Rattle.peers.specs.Look.{heldIn, staleFor, noRoomFor, becomesLive}
-use Rattle.peers.specs.Enter.{enteredAt}
-use Rattle.peers.specs.declared.look.Held.{Held}
-use Rattle.peers.specs.declared.enter.Heard.{Heard}
+use Rattle.places.specs.declared.once.Places.{Places}
+use Rattle.lookup.specs.Look.{heldIn, staleFor, noRoomFor, becomesLive}
+use Rattle.enter.specs.Enter.{enteredAt}
+use Rattle.lookup.specs.declared.look.Held.{Held}
+use Rattle.enter.specs.declared.enter.Heard.{Heard}
 use Rattle.participant.specs.Record.{setMark, setTable}
 use Rattle.participant.specs.Call.{agedTo}
 use Rattle.participant.specs.declared.record.Participant.{Participant}
-use Rattle.hearing.specs.declared.judge.Judged.{Judged}
-use Rattle.hearing.specs.declared.judge.Judged.the-variants as judged
+use Rattle.judge.specs.declared.judge.Judged.{Judged}
+use Rattle.judge.specs.declared.judge.Judged.the-variants as judged
 use Rattle.hearing.specs.declared.keys.Keyed.{Keyed}
 use Rattle.receive.specs.declared.receive.Answer.the-variants.{Accepted, Refused}
 use Rattle.receive.specs.declared.receive.Received.{Received}
 use Rattle.hearing.specs.Proof.{provesIn}
-use Rattle.hearing.specs.Judge.{basicIn, walkIn, placesIn, frameFacts}
+use Rattle.judge.specs.Judge.{basicIn, walkIn, placesIn, frameFacts}
 use Rattle.hearing.specs.Keys.{keyedOf}
 
 abbrev pub refusalOf : Judged → ℕ

@@ -4,12 +4,11 @@ use crate::receive::Received;
 use facts::Check;
 use frame::basic::Basic;
 use hearing::proof;
+use lookup::look;
+use lookup::look::Held;
 use participant::call;
 use participant::record::Participant;
-use peers::enter;
-use peers::look;
-use peers::look::Held;
-use sets::once::Places;
+use places::once::Places;
 ghost use mathlib.Core.Path.{_≡_};
 ghost use Rattle.receive.specs.Receive.{admitted, settledBy};
 
@@ -18,7 +17,7 @@ fn admit(q: Participant, held: Held, b: Basic, proves: bool) -> Participant
     ensures { λ r. ⌜ r ≡ admitted q held b proves ⌝ }
 {
     let before = q.table;
-    let table = enter::enter(before, held, receive::heard_of(b), proves, q.clock);
+    let table = enter::enter::enter(before, held, receive::heard_of(b), proves, q.clock);
     let mut s = q;
     s.mark = facts::either(q.mark, look::becomes_live(held, proves));
     s.table = table;

@@ -1,21 +1,19 @@
 // Receiving a frame: refusals 1 to 12.
 use crate::late;
+use enter::enter::Heard;
 use facts::Check;
 use frame::basic::Basic;
-use hearing::judge;
-use hearing::judge::Judged;
 use hearing::keys;
 use hearing::proof;
+use judge::judge::Judged;
+use lookup::look;
 use members::mi;
 use members::mi::Mi;
 use participant::record::Participant;
-use peers::enter;
-use peers::enter::Heard;
-use peers::expiry;
-use peers::look;
-use peers::table::ROOM;
-use peers::table::Table;
-use sets::once::Spot;
+use places::once::Spot;
+use table::expiry;
+use table::table::ROOM;
+use table::table::Table;
 ghost use mathlib.Core.Path.{_≡_};
 ghost use Rattle.participant.specs.Record.{setClock, setMark, setTable};
 ghost use Rattle.hearing.specs.Keys.{keyedOf};
@@ -114,7 +112,7 @@ fn with_table(p: Participant, table: Table, clock: u64, mark: bool) -> Participa
 pub fn receive(p: Participant, time: u64, verdict: bool, frame: &[u8]) -> Received
     ensures { λ r. ⌜ r ≡ receivedOf p time verdict (now (frame .entry)) ⌝ }
 {
-    let j = judge::judge(p, time, verdict, frame);
+    let j = judge::judge::judge(p, time, verdict, frame);
     let Judged::Good(b, w) = j else {
         return refused(p, refusal(j));
     };
@@ -149,9 +147,9 @@ pub fn receive(p: Participant, time: u64, verdict: bool, frame: &[u8]) -> Receiv
         return refused(p, 12);
     };
     let proves = proof::proves(frame, w, own, p.mn);
-    let to = enter::place(held, count);
-    t.peers[to] = enter::anew(held, heard_of(b), proves, time);
-    t.count = enter::grown(held, count);
+    let to = enter::enter::place(held, count);
+    t.peers[to] = enter::enter::anew(held, heard_of(b), proves, time);
+    t.count = enter::enter::grown(held, count);
     let mark = facts::either(p.mark, look::becomes_live(held, proves));
     let q = with_table(p, t, time, mark);
     let sak = w.sak;

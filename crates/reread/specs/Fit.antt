@@ -4,7 +4,7 @@ use mathlib.Core.Path.{_≡_}
 use mathlib.Core.List.{List, [], _∷_}
 use lib.ListN.{length}
 use Rattle.members.proofs.Laws.{Fitting}
-use Rattle.peers.specs.declared.table.Peer.{Peer}
+use Rattle.table.specs.declared.table.Peer.{Peer}
 use Rattle.participant.specs.declared.record.Key.{Key}
 use Rattle.participant.specs.declared.record.Participant.{Participant}
 

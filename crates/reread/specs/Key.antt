@@ -14,9 +14,9 @@ use Rattle.members.specs.Mi.{miOctets}
 use Rattle.members.proofs.Laws.{length-mi, mi-stands}
 use Rattle.packed.specs.Bit.{bit}
 use Rattle.packed.proofs.Laws.{bit-lt, bit-eqb, eqb-bit}
-use Rattle.peers.proofs.Lists.{both, first-of, second-of}
+use Rattle.lists.specs.Laws.{both, first-of, second-of}
 use Rattle.participant.specs.declared.record.Key.{Key}
-use Rattle.records.specs.Key.{keyFlags, keyOctets, keyAt, keyClean}
+use Rattle.key.specs.Key.{keyFlags, keyOctets, keyAt, keyClean}
 use Rattle.reread.specs.Fit.{FitKey}
 use Rattle.reread.specs.Cut.{cut, glue, octet-cut, mi-cut, after-it}
 

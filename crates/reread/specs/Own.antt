@@ -15,8 +15,8 @@ use Rattle.members.specs.Mi.{miOctets}
 use Rattle.members.proofs.Laws.{length-mi, mi-stands}
 use Rattle.packed.specs.Bit.{bit}
 use Rattle.packed.proofs.Laws.{bit-lt, bit-eqb, eqb-bit}
-use Rattle.peers.specs.Table.{emptyTable}
-use Rattle.peers.proofs.Lists.{both, first-of, second-of}
+use Rattle.table.specs.Table.{emptyTable}
+use Rattle.lists.specs.Laws.{both, first-of, second-of}
 use Rattle.participant.specs.Record.{first32, first24, setTable, setLatest, setOld}
 use Rattle.participant.specs.Keys.{noSlot}
 use Rattle.participant.specs.declared.record.Participant.{Participant}

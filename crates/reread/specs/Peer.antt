@@ -15,11 +15,11 @@ use Rattle.members.specs.Mi.{miOctets}
 use Rattle.members.proofs.Laws.{length-mi, mi-stands}
 use Rattle.packed.specs.Bit.{bit}
 use Rattle.packed.proofs.Laws.{bit-lt, bit-eqb, eqb-bit}
-use Rattle.peers.specs.Lists.{every}
-use Rattle.peers.specs.declared.table.Peer.{Peer}
-use Rattle.peers.proofs.Lists.{both, first-of, second-of}
-use Rattle.records.specs.Peer.{peerFlags, peerOctets, peersOctets, peerAt, peerClean, peersAt, peersClean}
-use Rattle.records.proofs.Laws.{length-peer}
+use Rattle.lists.specs.Lists.{every}
+use Rattle.table.specs.declared.table.Peer.{Peer}
+use Rattle.lists.specs.Laws.{both, first-of, second-of}
+use Rattle.peer.specs.Peer.{peerFlags, peerOctets, peersOctets, peerAt, peerClean, peersAt, peersClean}
+use Rattle.peer.proofs.Laws.{length-peer}
 use Rattle.reread.specs.Fit.{FitPeer, FitPeers}
 use Rattle.reread.specs.Cut.{cut, glue, octet-cut, mi-cut, after-it}
 

@@ -10,9 +10,9 @@ use Rattle.members.specs.Entry.{entriesOf}
 use Rattle.members.specs.declared.entry.Entry.{Entry}
 use Rattle.members.proofs.Laws.{Fitting}
 use Rattle.frame.specs.declared.basic.Basic.{Basic}
-use Rattle.sets.specs.Once.{absentSpot, spotAt}
-use Rattle.sets.specs.declared.once.Spot.{Spot}
-use Rattle.sets.specs.declared.once.Places.{Places}
+use Rattle.places.specs.Once.{absentSpot, spotAt}
+use Rattle.places.specs.declared.once.Spot.{Spot}
+use Rattle.places.specs.declared.once.Places.{Places}
 use Rattle.sets.specs.declared.kinds.KeyUse.{KeyUse}
 use Rattle.sets.specs.declared.kinds.SakHeader.{SakHeader}
 use Rattle.writer.specs.Frame.{listSet, usePart, bodyOctets}

@@ -20,10 +20,10 @@ use Rattle.frame.specs.Basic.{basicOf}
 use Rattle.frame.specs.Ours.{sameAt, fact6, fact7}
 use Rattle.frame.specs.declared.basic.BasicRead.the-variants.{Read}
 use Rattle.sets.specs.Kinds.{sakUseAt, sakAt}
-use Rattle.sets.specs.Once.{absentSpot, noPlaces, holds, placesWith}
+use Rattle.places.specs.Once.{absentSpot, noPlaces, holds, placesWith}
 use Rattle.sets.specs.Set.{listLen, badBody}
-use Rattle.sets.specs.declared.once.Spot.{Spot}
-use Rattle.sets.specs.declared.once.Places.{Places}
+use Rattle.places.specs.declared.once.Spot.{Spot}
+use Rattle.places.specs.declared.once.Places.{Places}
 use Rattle.walk.specs.List.{entriesFrom, listAt}
 use Rattle.walk.specs.Walk.{walkFrom, walkOf}
 use Rattle.walk.specs.declared.Walked.the-variants.{End}

@@ -9,13 +9,13 @@ use lib.Seq.{drop-cons}
 use lib.Dec.{eqb}
 use Rattle.members.specs.declared.mi.Mi.{Mi}
 use Rattle.members.specs.Mi.{miSame}
-use Rattle.peers.specs.declared.table.Peer.{Peer}
-use Rattle.peers.specs.declared.table.Table.{Table}
-use Rattle.peers.specs.Lists.{every}
-use Rattle.peers.specs.Table.{entries}
-use Rattle.peers.specs.Expiry.{freshPeer}
-use Rattle.peers.specs.Kept.{absent, distinct, numbered, timely, freshProof, ordered, Kept}
-use Rattle.peers.proofs.Lists.{both, first-of, second-of}
+use Rattle.table.specs.declared.table.Peer.{Peer}
+use Rattle.table.specs.declared.table.Table.{Table}
+use Rattle.lists.specs.Lists.{every}
+use Rattle.table.specs.Table.{entries}
+use Rattle.table.specs.Expiry.{freshPeer}
+use Rattle.table.specs.Kept.{absent, distinct, numbered, timely, freshProof, ordered, Kept}
+use Rattle.lists.specs.Laws.{both, first-of, second-of}
 use Rattle.rules.specs.Rules.{zeros, twoBits, timesGood, peerGood, peersGood, PeerRules}
 
 -- what a loop over octets has left

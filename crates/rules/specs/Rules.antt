@@ -7,11 +7,11 @@ use lib.ListN.{drop}
 use lib.Dec.{eqb, leb, ltb}
 use Rattle.members.specs.Mi.{miSame}
 use Rattle.members.specs.declared.mi.Mi.{Mi}
-use Rattle.peers.specs.Lists.{every}
-use Rattle.peers.specs.Table.{entries}
-use Rattle.peers.specs.Expiry.{freshPeer}
-use Rattle.peers.specs.Kept.{absent, distinct, numbered, timely, freshProof, ordered}
-use Rattle.peers.specs.declared.table.Peer.{Peer}
+use Rattle.lists.specs.Lists.{every}
+use Rattle.table.specs.Table.{entries}
+use Rattle.table.specs.Expiry.{freshPeer}
+use Rattle.table.specs.Kept.{absent, distinct, numbered, timely, freshProof, ordered}
+use Rattle.table.specs.declared.table.Peer.{Peer}
 use Rattle.participant.specs.Create.{badStart}
 use Rattle.participant.specs.Keys.{isKey}
 use Rattle.participant.specs.declared.record.Key.{Key}

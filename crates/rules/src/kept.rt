@@ -6,14 +6,14 @@ use participant::keys;
 use participant::record::Key;
 use participant::record::Participant;
 use participant::record::Slot;
-use peers::expiry;
-use peers::table::Peer;
-use peers::table::ROOM;
-use peers::table::Table;
+use table::expiry;
+use table::table::Peer;
+use table::table::ROOM;
+use table::table::Table;
 ghost use mathlib.Core.Path.{_≡_};
 ghost use lib.ListN.{drop};
-ghost use Rattle.peers.specs.Table.{entries};
-ghost use Rattle.peers.specs.Kept.{absent, freshProof, ordered};
+ghost use Rattle.table.specs.Table.{entries};
+ghost use Rattle.table.specs.Kept.{absent, freshProof, ordered};
 ghost use Rattle.rules.specs.Rules.{zeros, unsentZero, undistributedZero, unusedZero, ownGood, timesGood, peerGood, peersGood, useGood, numberGood, keyGood, slotGood, keysGood, rules};
 
 // Whether all octets from a place on are 0.

@@ -14,19 +14,19 @@ use Rattle.octets.proofs.Laws.{Octets, beAt-lt}
 use Rattle.members.specs.Mi.{miAt}
 use Rattle.members.proofs.Laws.{Fitting}
 use Rattle.packed.specs.Bit.{bit}
-use Rattle.peers.specs.Table.{entries, tableOf}
-use Rattle.peers.specs.Kept.{Tidy}
-use Rattle.peers.specs.declared.table.Peer.{Peer}
-use Rattle.peers.proofs.Aging.{entries-tableOf, tidy-tableOf}
-use Rattle.peers.proofs.Lists.{by-cases, first-of, second-of, clash}
+use Rattle.table.specs.Table.{entries, tableOf}
+use Rattle.table.specs.Kept.{Tidy}
+use Rattle.table.specs.declared.table.Peer.{Peer}
+use Rattle.table.proofs.Aging.{entries-tableOf, tidy-tableOf}
+use Rattle.lists.specs.Laws.{by-cases, first-of, second-of, clash}
 use Rattle.participant.specs.Keys.{noSlot}
 use Rattle.participant.specs.declared.record.Participant.{Participant}
 use Rattle.layout.specs.Layout.{Part, recordsAt, offsetAt, laidOf, laidOut, partsFrom, partsIn}
 use Rattle.layout.proofs.Back.{PlacedFrom, laid-placed, laid-back}
 use Rattle.own.specs.Own.{namedOctets, timesOctets, keptOctets, ownOctets, ownAt, ownClean}
-use Rattle.records.specs.Peer.{peersOctets, peerAt, peersAt, peersClean}
-use Rattle.records.specs.Key.{keyOctets, slotOctets, keyAt, slotAt, slotClean}
-use Rattle.records.proofs.Laws.{length-peersAt}
+use Rattle.peer.specs.Peer.{peersOctets, peerAt, peersAt, peersClean}
+use Rattle.key.specs.Key.{keyOctets, slotOctets, keyAt, slotAt, slotClean}
+use Rattle.peer.proofs.Laws.{length-peersAt}
 use Rattle.reread.specs.Fit.{FitPeer, FitPeers, FitKey, FitOwn}
 use Rattle.reread.specs.Cut.{cut, glue}
 use Rattle.reread.specs.Own.{own-back}
@@ -35,7 +35,7 @@ use Rattle.reread.specs.Key.{key-back}
 use Rattle.rules.specs.Rules.{only, rules}
 use Rattle.saved.specs.WellFormed.{TidySlot, WellFormed}
 use Rattle.image.specs.Image.{ownPart, peersPart, keysPart, imageOf}
-use Rattle.image.specs.Read.{sizes, numbersGood, keyPlace, clean, toldBy, wellFormed}
+use Rattle.reading.specs.Read.{sizes, numbersGood, keyPlace, clean, toldBy, wellFormed}
 use Rattle.saved.specs.Told.{size-small}
 
 -- ---- numbers that were read fit

@@ -6,7 +6,7 @@ use mathlib.Core.List.{List}
 use mathlib.Core.Bool.{Bool, true, false}
 use lib.ListN.{length}
 use Rattle.octets.proofs.Laws.{Octets}
-use Rattle.peers.proofs.Lists.{by-cases, never, clash}
+use Rattle.lists.specs.Laws.{by-cases, never, clash}
 use Rattle.participant.specs.Call.{doneOf, refusedOf}
 use Rattle.participant.specs.Create.{nobody}
 use Rattle.participant.specs.declared.record.Participant.{Participant}
@@ -14,7 +14,7 @@ use Rattle.participant.specs.declared.call.Answer.{Answer}
 use Rattle.participant.specs.declared.call.Answer.the-variants.{Done, Refused}
 use Rattle.saved.specs.WellFormed.{WellFormed}
 use Rattle.image.specs.Image.{imageOf}
-use Rattle.image.specs.Read.{toldBy, wellFormed, readOf}
+use Rattle.reading.specs.Read.{toldBy, wellFormed, readOf}
 use Rattle.saved.specs.Told as told
 use Rattle.saved.specs.Back as back
 

@@ -10,9 +10,9 @@ use borrow.Author.Tests.{ltb-true, ltb-false, lt-ltb, le-ltb, le-leb, eq-eqb, no
 use Rattle.octets.proofs.Fields.{Stands, first, second, moved}
 use Rattle.packed.specs.Bit.{bit}
 use Rattle.packed.proofs.Laws.{bit-lt}
-use Rattle.peers.specs.Table.{entries, tableOf}
-use Rattle.peers.specs.declared.table.Peer.{Peer}
-use Rattle.peers.proofs.Lists.{by-cases, both, first-of, second-of, clash}
+use Rattle.table.specs.Table.{entries, tableOf}
+use Rattle.table.specs.declared.table.Peer.{Peer}
+use Rattle.lists.specs.Laws.{by-cases, both, first-of, second-of, clash}
 use Rattle.participant.specs.Record.{setTable, setLatest, setOld}
 use Rattle.participant.specs.Call.{doneOf}
 use Rattle.participant.specs.Create.{badStart}
@@ -22,9 +22,9 @@ use Rattle.layout.specs.Layout.{Part, recordsAt, offsetAt, laidOf, bodies, laid
 use Rattle.layout.proofs.Laws.{length-laid}
 use Rattle.layout.proofs.Round.{Matching, Told, ToldFrom, told, laid-round}
 use Rattle.own.specs.Own.{ownOctets, ownAt, ownClean}
-use Rattle.records.specs.Peer.{peersOctets, peersAt, peersClean}
-use Rattle.records.specs.Key.{keyOctets, slotOctets, keyAt, keyClean, slotAt, slotClean}
-use Rattle.records.proofs.Laws.{length-key}
+use Rattle.peer.specs.Peer.{peersOctets, peersAt, peersClean}
+use Rattle.key.specs.Key.{keyOctets, slotOctets, keyAt, keyClean, slotAt, slotClean}
+use Rattle.key.proofs.Laws.{length-key}
 use Rattle.own.proofs.Lengths.{length-own}
 use Rattle.reread.specs.Fit.{FitKey}
 use Rattle.reread.specs.Own.{alone, own-stands}
@@ -34,7 +34,7 @@ use Rattle.rules.specs.Rules.{only, ownGood, peersGood, keysGood, rules}
 use Rattle.rules.proofs.Laws.{good-rules}
 use Rattle.saved.specs.WellFormed.{TidySlot, WellFormed}
 use Rattle.image.specs.Image.{ownPart, peersPart, keysPart, imageOf}
-use Rattle.image.specs.Read.{sizes, numbersGood, keyPlace, clean, toldBy, wellFormed, readOf}
+use Rattle.reading.specs.Read.{sizes, numbersGood, keyPlace, clean, toldBy, wellFormed, readOf}
 use Rattle.image.proofs.Laws.{length-peers, length-slot, length-image}
 
 -- ---- the parts of an image have the sizes of their kinds

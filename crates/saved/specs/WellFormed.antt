@@ -1,8 +1,8 @@
 -- A well-formed participant: one whose image is well formed and that the image tells whole.
 use mathlib.Core.Path.{_≡_}
 use mathlib.Core.Bool.{true, cond}
-use Rattle.peers.specs.Table.{entries}
-use Rattle.peers.specs.Kept.{Tidy}
+use Rattle.table.specs.Table.{entries}
+use Rattle.table.specs.Kept.{Tidy}
 use Rattle.participant.specs.Keys.{noSlot, slotOf}
 use Rattle.participant.specs.declared.record.Slot.{Slot}
 use Rattle.participant.specs.declared.record.Participant.{Participant}

@@ -8,8 +8,8 @@ use lib.ListN.{length, drop}
 use borrow.Author.Tests.{ne-eqb, eqb-true, eqb-false}
 use Rattle.facts.specs.Facts.{firstOf}
 use Rattle.octets.specs.Run.{written}
-use Rattle.peers.specs.Expiry.{expired}
-use Rattle.peers.proofs.Lists.{by-cases, never}
+use Rattle.table.specs.Expiry.{expired}
+use Rattle.lists.specs.Laws.{by-cases, never}
 use Rattle.writer.specs.Frame.{wroteOf}
 use Rattle.writer.specs.declared.mkpdu.Wrote.the-variants as wrote
 use Rattle.participant.specs.Call.{agedTo}

@@ -1,7 +1,7 @@
 -- "Sending": what a frame says.
 use Prim.Native.Nat.{ℕ, _+_}
 use mathlib.Core.Bool.{Bool, true, false, cond, not, _&&_}
-use Rattle.election.specs.Counts.{liveList, potentialList}
+use Rattle.counts.specs.Counts.{liveList, potentialList}
 use Rattle.election.specs.declared.elect.Server.{Server}
 use Rattle.election.specs.declared.elect.Server.the-variants.{Nobody, Ourselves, Elected}
 use Rattle.sets.specs.declared.kinds.KeyUse.{KeyUse}

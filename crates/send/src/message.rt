@@ -1,5 +1,4 @@
 // What the next frame says.
-use election::counts;
 use election::elect::Server;
 use members::mi::Mi;
 use participant::keys;
@@ -112,8 +111,8 @@ pub(crate) fn message(p: Participant, latest_pn: u32, old_pn: u32) -> Mkpdu
     };
     Mkpdu {
         sender: sender(p),
-        live: counts::live_list(t),
-        potential: counts::potential_list(t),
+        live: counts::counts::live_list(t),
+        potential: counts::counts::potential_list(t),
         used: latest.held,
         usage,
         distributed: hands_out(p),

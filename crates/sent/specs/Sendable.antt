@@ -8,11 +8,11 @@ use lib.ListN.{length}
 use lib.Dec.{lit<}
 use Rattle.members.specs.Mi.{miSame}
 use Rattle.members.proofs.Laws.{Fitting}
-use Rattle.peers.specs.Lists.{those}
-use Rattle.peers.specs.Table.{entries}
-use Rattle.election.specs.Counts.{entryOf}
-use Rattle.peers.specs.declared.table.Peer.{Peer}
-use Rattle.election.proofs.Listing.{live-listed, potential-listed}
+use Rattle.lists.specs.Lists.{those}
+use Rattle.table.specs.Table.{entries}
+use Rattle.counts.specs.Counts.{entryOf}
+use Rattle.table.specs.declared.table.Peer.{Peer}
+use Rattle.counts.proofs.Listing.{live-listed, potential-listed}
 use Rattle.sets.specs.declared.kinds.KeyUse.{KeyUse}
 use Rattle.participant.specs.declared.record.Key.{Key}
 use Rattle.participant.specs.declared.record.Slot.{Slot}

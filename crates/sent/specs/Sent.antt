@@ -12,11 +12,11 @@ use Rattle.sets.specs.Kinds.{sakUseAt, sakAt}
 use Rattle.walk.specs.List.{listAt}
 use Rattle.walk.specs.Walk.{walkOf}
 use Rattle.walk.specs.declared.Walked.the-variants.{End}
-use Rattle.peers.specs.Lists.{those}
-use Rattle.peers.specs.Table.{entries}
-use Rattle.peers.specs.Look.{isLive, isPotential}
-use Rattle.election.specs.Counts.{entryOf}
-use Rattle.election.proofs.Listing.{live-listed, potential-listed}
+use Rattle.lists.specs.Lists.{those}
+use Rattle.table.specs.Table.{entries}
+use Rattle.lookup.specs.Look.{isLive, isPotential}
+use Rattle.counts.specs.Counts.{entryOf}
+use Rattle.counts.proofs.Listing.{live-listed, potential-listed}
 use Rattle.writer.specs.Frame.{bodyOctets}
 use Rattle.writer.specs.declared.mkpdu.Mkpdu.{Mkpdu}
 use Rattle.participant.specs.Call.{agedTo}

@@ -1,4 +1,3 @@
 // One further parameter set of a frame: what it is, and the rules that it may break.
 pub mod kinds;
-pub mod once;
 pub mod set;

@@ -1,10 +1,10 @@
 // One set, read at a place: good, with what it says, or bad.
 use crate::kinds;
 use crate::kinds::Kind;
-use crate::once;
-use crate::once::Places;
 use facts::Check;
 use octets::number;
+use places::once;
+use places::once::Places;
 ghost use mathlib.Core.Path.{_≡_};
 ghost use Prim.Native.Nat.{_<_, _^_};
 ghost use Rattle.facts.specs.Facts.{checkOf};

@@ -2,9 +2,6 @@
 use Rattle.changes.proofs as changes
 use Rattle.unique.specs.Law.{OneAnswer, same}
 
-pub changes·distribute·distribute : OneAnswer changes.distribute.distribute.Kinds.ps changes.distribute.distribute.Kinds.r changes.distribute.distribute.Reads.Learnt
-changes·distribute·distribute κs a z z′ e e′ h h′ = same h h′
-
 pub changes·renew·new-mi : OneAnswer changes.renew.new_mi.Kinds.ps changes.renew.new_mi.Kinds.r changes.renew.new_mi.Reads.Learnt
 changes·renew·new-mi κs a z z′ e e′ h h′ = same h h′
 

@@ -2,9 +2,6 @@
 use Rattle.hearing.proofs as hearing
 use Rattle.unique.specs.Law.{OneAnswer, same}
 
-pub hearing·judge·judge : OneAnswer hearing.judge.judge.Kinds.ps hearing.judge.judge.Kinds.r hearing.judge.judge.Reads.Learnt
-hearing·judge·judge κs a z z′ e e′ h h′ = same h h′
-
 pub hearing·keys·take-sak : OneAnswer hearing.keys.take_sak.Kinds.ps hearing.keys.take_sak.Kinds.r hearing.keys.take_sak.Reads.Learnt
 hearing·keys·take-sak κs a z z′ e e′ h h′ = same h h′
 

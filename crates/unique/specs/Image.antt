@@ -3,9 +3,6 @@ use denote.Ref.{now}
 use Rattle.image.proofs as image
 use Rattle.unique.specs.Law.{OneAnswer, OneSeen, same}
 
-pub image·read·read : OneAnswer image.read.read.Kinds.ps image.read.read.Kinds.r image.read.read.Reads.Learnt
-image·read·read κs a z z′ e e′ h h′ = same h h′
-
 pub image·write·write : OneAnswer image.write.write.Kinds.ps image.write.write.Kinds.r image.write.write.Reads.Learnt
 image·write·write κs a z z′ e e′ h h′ = same (h .0) (h′ .0)
 

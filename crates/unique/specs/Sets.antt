@@ -8,15 +8,6 @@ sets·kinds·sak-at κs a z z′ e e′ h h′ = same h h′
 pub sets·kinds·type-of : OneAnswer sets.kinds.type_of.Kinds.ps sets.kinds.type_of.Kinds.r sets.kinds.type_of.Reads.Learnt
 sets·kinds·type-of κs a z z′ e e′ h h′ = same h h′
 
-pub sets·once·none : OneAnswer sets.once.none.Kinds.ps sets.once.none.Kinds.r sets.once.none.Reads.Learnt
-sets·once·none κs a z z′ e e′ h h′ = same h h′
-
-pub sets·once·has : OneAnswer sets.once.has.Kinds.ps sets.once.has.Kinds.r sets.once.has.Reads.Learnt
-sets·once·has κs a z z′ e e′ h h′ = same h h′
-
-pub sets·once·with : OneAnswer sets.once.with.Kinds.ps sets.once.with.Kinds.r sets.once.with.Reads.Learnt
-sets·once·with κs a z z′ e e′ h h′ = same h h′
-
 pub sets·set·set-head : OneAnswer sets.set.set_head.Kinds.ps sets.set.set_head.Kinds.r sets.set.set_head.Reads.Learnt
 sets·set·set-head κs a z z′ e e′ h h′ = same h h′
 

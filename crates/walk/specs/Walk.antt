@@ -4,9 +4,9 @@ use mathlib.Core.List.{List}
 use mathlib.Core.Bool.{cond}
 use lib.ListN.{getD}
 use lib.Dec.{leb}
-use Rattle.sets.specs.Once.{noPlaces, placesWith}
+use Rattle.places.specs.Once.{noPlaces, placesWith}
 use Rattle.sets.specs.Set.{lenAt, badSet, extentOf}
-use Rattle.sets.specs.declared.once.Places.{Places}
+use Rattle.places.specs.declared.once.Places.{Places}
 use Rattle.walk.specs.declared.Walked.{Walked}
 use Rattle.walk.specs.declared.Walked.the-variants.{End, Bad}
 

@@ -1,7 +1,7 @@
 // The walk over the further sets of a frame, and the search of a peer list.
+use places::once;
+use places::once::Places;
 use sets::kinds;
-use sets::once;
-use sets::once::Places;
 use sets::set;
 use sets::set::SetRead;
 ghost use mathlib.Core.Path.{_≡_};

@@ -3,7 +3,7 @@ use mathlib.Core.Path.{_≡_, sym, ap, ap₂, _∙_}
 use mathlib.Core.Bool.{false}
 use lib.ListN.{length, getD}
 use denote.Ref.{now}
-use Rattle.sets.specs.Once.{placesWith}
+use Rattle.places.specs.Once.{placesWith}
 use Rattle.sets.specs.Set.{lenAt, listLen, badHead, extentOf}
 use Rattle.sets.proofs.Laws as rules
 use Rattle.walk.specs.Walk.{nextAt, placesAfter, walkFrom, walkOf}

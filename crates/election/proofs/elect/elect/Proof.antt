@@ -4,10 +4,10 @@ use mathlib.Core.Path.{_≡_, refl, ap, sym, _∙_}
 use lib.ListN.{length, length-map, take, drop, getD}
 use borrow.Author.Tests.{ne-eqb}
 use borrow.Author.Needs.{needs}
-use Rattle.peers.specs.Table.{blankPeer}
-use Rattle.election.specs.Counts.{liveCount}
+use Rattle.table.specs.Table.{blankPeer}
+use Rattle.counts.specs.Counts.{liveCount}
 use Rattle.election.specs.Elect.{contenders, leader, serverOf, elected}
-use Rattle.peers.proofs.Lists.{loop-next, drop-end}
+use Rattle.lists.specs.Laws.{loop-next, drop-end}
 use Rattle.election.proofs.Least.{leader-step}
 use Rattle.election.proofs.elect.elect.Statement.{statement}
 use Rattle.election.proofs.elect.elect.Tie as tie

@@ -1,7 +1,7 @@
 use Rattle.image.proofs.Laws.{length-entries, length-image, image-stored}
 use Rattle.image.specs.Image.{imageOf}
 use Rattle.writer.specs.declared.mkpdu.Wrote.the-variants.{Octets}
-use Rattle.peers.specs.Table.{entries}
+use Rattle.table.specs.Table.{entries}
 use Rattle.packed.specs.Bit.{bit}
 use Rattle.octets.proofs.Stores.{sets-whole}
 use Rattle.octets.specs.Run.{written}

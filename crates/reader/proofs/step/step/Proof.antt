@@ -1,7 +1,7 @@
 use Rattle.reader.proofs.Laws as laws
 use Rattle.sets.proofs.Laws as rules
 use Rattle.sets.specs.Set.{extentOf}
-use Rattle.sets.specs.Once.{placesWith}
+use Rattle.places.specs.Once.{placesWith}
 use denote.Ref.{now}
 use lib.ListN.{length}
 use mathlib.Core.Path.{sym, ap, _∙_}

@@ -1,5 +1,5 @@
 use mathlib.Core.Path.{_≡_}
-use Rattle.peers.specs.Look.{becomesLive}
+use Rattle.lookup.specs.Look.{becomesLive}
 use Rattle.receive.specs.Receive.{admitted}
 use borrow.Author.Needs.{needs}
 use Rattle.receive.proofs.late.admit.Statement.{statement}

@@ -4,7 +4,7 @@ use Rattle.receive.specs.Receive.{refusalOf, refusedOf, acceptedOf, tabl
 use Rattle.hearing.specs.Keys.{keyedOf}
 use Rattle.hearing.specs.Proof.{provesIn}
 use Rattle.participant.specs.declared.record.Participant.{Participant}
-use Rattle.peers.proofs.Lists.{drop-end}
+use Rattle.lists.specs.Laws.{drop-end}
 use Rattle.facts.proofs.Laws.{check-failed, check-passed}
 use borrow.Author.Tests.{eq-eqb, not-false}
 use denote.Ref.{now}
@@ -12,10 +12,10 @@ use mathlib.Core.Bool.{true}
 use Prim.Native.Nat.{_-_, _≤_, _<_}
 use mathlib.Core.Path.{_≡_, refl, sym, ap, _∙_}
 use lib.ListN.{getD, take, drop, length, length-map}
-use Rattle.peers.specs.Table.{blankPeer, entries}
-use Rattle.peers.specs.Expiry.{steadyIn}
-use Rattle.peers.specs.Look.{seek, heldIn, becomesLive}
-use Rattle.peers.proofs.InPlace.{sought, first-below, steady-turn, sought-turn, sought-end, place-fits}
+use Rattle.table.specs.Table.{blankPeer, entries}
+use Rattle.table.specs.Expiry.{steadyIn}
+use Rattle.lookup.specs.Look.{seek, heldIn, becomesLive}
+use Rattle.kept.specs.InPlace.{sought, first-below, steady-turn, sought-turn, sought-end, place-fits}
 use borrow.Author.Needs.{needs}
 use native.Mathlib.Omega.{arith}
 use Rattle.receive.proofs.receive.receive.Statement.{statement}

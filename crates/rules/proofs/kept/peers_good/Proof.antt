@@ -5,8 +5,8 @@ use mathlib.Core.List.{_∷_}
 use lib.ListN.{length-map, drop, getD}
 use borrow.Author.Tests.{not-true, not-false}
 use borrow.Author.Needs.{needs}
-use Rattle.peers.specs.Table.{room, blankPeer, entries}
-use Rattle.peers.proofs.Lists.{loop-next, drop-end}
+use Rattle.table.specs.Table.{room, blankPeer, entries}
+use Rattle.lists.specs.Laws.{loop-next, drop-end}
 use Rattle.rules.specs.Rules.{peersGood}
 use Rattle.rules.proofs.kept.peers_good.Statement.{statement}
 use Rattle.rules.proofs.kept.peers_good.Tie as tie

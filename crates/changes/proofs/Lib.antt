@@ -1,3 +1,0 @@
--- The laws that the layers above cite.
-pub mod Settled
-pub mod Fields

@@ -1,0 +1,2 @@
+// The Live and the Potential peers, counted and listed.
+pub mod counts;

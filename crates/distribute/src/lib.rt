@@ -1,0 +1,2 @@
+// Distributing a fresh SAK.
+pub mod distribute;

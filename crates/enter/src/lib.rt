@@ -1,0 +1,2 @@
+// Entering a frame's sender into the table.
+pub mod enter;

@@ -1,0 +1,2 @@
+// A key's record of a port image.
+pub mod key;

@@ -1,0 +1,2 @@
+// A peer's record of a port image.
+pub mod peer;

@@ -1,0 +1,2 @@
+// A port image read back.
+pub mod read;

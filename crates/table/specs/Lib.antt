@@ -1,0 +1,3 @@
+pub mod Table
+pub mod Expiry
+pub mod Kept

@@ -1,0 +1,6 @@
+-- The public functions of `distribute`. Written by tools/unique.
+use Rattle.distribute.proofs as distribute
+use Rattle.unique.specs.Law.{OneAnswer, same}
+
+pub distribute·distribute·distribute : OneAnswer distribute.distribute.distribute.Kinds.ps distribute.distribute.distribute.Kinds.r distribute.distribute.distribute.Reads.Learnt
+distribute·distribute·distribute κs a z z′ e e′ h h′ = same h h′

@@ -1,0 +1,6 @@
+-- The public functions of `judge`. Written by tools/unique.
+use Rattle.judge.proofs as judge
+use Rattle.unique.specs.Law.{OneAnswer, same}
+
+pub judge·judge·judge : OneAnswer judge.judge.judge.Kinds.ps judge.judge.judge.Kinds.r judge.judge.judge.Reads.Learnt
+judge·judge·judge κs a z z′ e e′ h h′ = same h h′

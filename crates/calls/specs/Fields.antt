@@ -7,7 +7,7 @@ use native.Mathlib.Omega.{arith}
 use lib.ListN.{length, replicate}
 use Rattle.members.specs.declared.mi.Mi.{Mi}
 use Rattle.table.specs.Table.{emptyTable}
-use Rattle.table.specs.Expiry.{expired}
+use Rattle.expiry.specs.Expiry.{expired}
 use Rattle.lists.specs.Laws.{by-cases}
 use Rattle.participant.specs.declared.record.Slot.{Slot}
 use Rattle.participant.specs.declared.record.Participant.{Participant}
@@ -15,7 +15,7 @@ use Rattle.participant.specs.declared.call.Called.{Called}
 use Rattle.participant.specs.declared.call.Answer.the-variants.{Done}
 use Rattle.participant.specs.Record.{first24, setMi, setMn, setMark, setClock, setSent, setKn, setDistributed, setWrapped, setTable, setLatest, setOld}
 use Rattle.participant.specs.Call.{settle, fact1, agedTo, ticked}
-use Rattle.participant.specs.Create.{badStart, fresh, nobody, createdOf}
+use Rattle.creation.specs.Create.{badStart, fresh, nobody, createdOf}
 use Rattle.participant.specs.Keys.{noSlot, slotOf, withKey}
 use Rattle.changes.specs.Renew.{renewed, newMiOf}
 use Rattle.changes.specs.Report.{misreported, installed, reported}

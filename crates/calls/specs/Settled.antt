@@ -11,7 +11,7 @@ use Rattle.participant.specs.declared.record.Participant.{Participant}
 use Rattle.participant.specs.declared.call.Answer.the-variants.{Done}
 use Rattle.participant.specs.Call.{settle, fact1, agedTo, ticked}
 use Rattle.participant.specs.Record.{first24, setLatest}
-use Rattle.participant.specs.Create.{badStart, fresh, nobody, createdOf}
+use Rattle.creation.specs.Create.{badStart, fresh, nobody, createdOf}
 use Rattle.participant.specs.Keys.{withKey}
 use Rattle.questions.specs.Ask.{freshDue}
 use Rattle.changes.specs.Renew.{taken, renewed, newMiOf}

@@ -14,7 +14,7 @@ use Rattle.table.specs.Table.{entries}
 use Rattle.lookup.specs.Look.{isLive, isPotential}
 use Rattle.counts.specs.Counts.{entryOf, blankEntry, listOf, liveCount, potentialCount, liveList, potentialList}
 use Rattle.lists.specs.Laws.{by-cases, length-those, length-of-map, take-pad}
-use Rattle.table.proofs.Aging.{at-most-16}
+use Rattle.expiry.proofs.Aging.{at-most-16}
 
 parted : (l : List Peer) → length (those isLive l) + length (those isPotential l) ≡ length l
 parted [] = refl

@@ -20,7 +20,7 @@ use Rattle.table.specs.Table.{entries}
 use Rattle.lookup.specs.Look.{isLive, heldIn, liveFor}
 use Rattle.counts.specs.Counts.{liveCount}
 use Rattle.election.specs.Elect.{lower, rankOf, mayLead, eligible, contenders, candidates, challenged, leader, leadStep, serverOf, startOf, elected}
-use Rattle.table.specs.Kept.{absent, distinct}
+use Rattle.expiry.specs.Kept.{absent, distinct}
 use Rattle.lists.specs.Laws.{by-cases, clash, never, first-of, mem-those, those-mem, mem-map, map-mem}
 use Rattle.kept.specs.Apart.{absent-clash, held-member}
 use Rattle.election.proofs.Order.{lower-ntrans, lower-asym, lower-irrefl, lower-total}

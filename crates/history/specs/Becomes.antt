@@ -10,7 +10,7 @@ use borrow.Author.Tests.{ltb-false}
 use Rattle.members.specs.declared.mi.Mi.{Mi}
 use Rattle.sets.specs.Kinds.{sakIn}
 use Rattle.places.specs.declared.once.Spot.{Spot}
-use Rattle.table.specs.Expiry.{expired}
+use Rattle.expiry.specs.Expiry.{expired}
 use Rattle.enter.specs.Enter.{entered}
 use Rattle.lists.specs.Laws.{by-cases}
 use Rattle.participant.specs.Call.{agedTo}

@@ -7,7 +7,7 @@ use mathlib.Core.Option.{Option, none, some}
 use lib.ListN.{length}
 use Rattle.members.specs.declared.mi.Mi.{Mi}
 use Rattle.participant.specs.Call.{ticked}
-use Rattle.participant.specs.Create.{createdOf}
+use Rattle.creation.specs.Create.{createdOf}
 use Rattle.distribute.specs.Distribute.{distributedOf}
 use Rattle.changes.specs.Renew.{newMiOf}
 use Rattle.changes.specs.Report.{reported}

@@ -7,7 +7,7 @@ use mathlib.Core.Option.{Option, none, some}
 use mathlib.Core.Logic.{_⊎_, inl, inr}
 use native.Mathlib.Omega.{arith}
 use Rattle.lists.specs.Laws.{by-cases}
-use Rattle.participant.specs.Create.{fresh}
+use Rattle.creation.specs.Create.{fresh}
 use Rattle.participant.specs.declared.record.Participant.{Participant}
 use Rattle.participant.specs.declared.call.Answer.the-variants.{Done}
 use Rattle.history.specs.Calls.{Creation, created, Call, answered, from, after, accepts, accepted, timeOf, Made}

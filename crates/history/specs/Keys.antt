@@ -10,7 +10,7 @@ use Rattle.members.specs.declared.mi.Mi.{Mi}
 use Rattle.sets.specs.Kinds.{sakIn}
 use Rattle.places.specs.declared.once.Spot.{Spot}
 use Rattle.sets.specs.declared.kinds.SakHeader.{SakHeader}
-use Rattle.table.specs.Kept.{Kept}
+use Rattle.expiry.specs.Kept.{Kept}
 use Rattle.lookup.specs.Look.{heldIn, liveFor}
 use Rattle.election.specs.declared.elect.Server.{Server}
 use Rattle.election.specs.declared.elect.Server.the-variants.{Nobody, Ourselves, Elected}
@@ -19,7 +19,7 @@ use Rattle.kept.specs.Same.{same-eq}
 use Rattle.election.proofs.Least.{elected-live}
 use Rattle.questions.specs.Ask.{ownRank, serverOf, electedSelf, settledDown, freshDue}
 use Rattle.participant.specs.Call.{agedTo}
-use Rattle.participant.specs.Create.{fresh}
+use Rattle.creation.specs.Create.{fresh}
 use Rattle.participant.specs.Record.{first24}
 use Rattle.changes.specs.Renew.{renewed}
 use Rattle.changes.specs.Report.{installed}

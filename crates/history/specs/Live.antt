@@ -12,7 +12,7 @@ use Rattle.members.specs.Mi.{miSame}
 use Rattle.members.specs.declared.mi.Mi.{Mi}
 use Rattle.members.specs.declared.entry.Entry.{Entry}
 use Rattle.walk.specs.List.{entriesIn}
-use Rattle.table.specs.Expiry.{lifeTime, freshAt}
+use Rattle.expiry.specs.Expiry.{lifeTime, freshAt}
 use Rattle.kept.specs.Proved.{agedProof, isSome}
 use Rattle.lookup.specs.Look.{heldIn, liveFor}
 use Rattle.lists.specs.Laws.{by-cases, never, clash, both, first-of, second-of}

@@ -7,14 +7,14 @@ use mathlib.Core.Option.{Option, none, some}
 use borrow.Author.Tests.{ltb-false}
 use Rattle.members.specs.Mi.{miSame}
 use Rattle.members.specs.declared.mi.Mi.{Mi}
-use Rattle.table.specs.Expiry.{expired}
+use Rattle.expiry.specs.Expiry.{expired}
 use Rattle.kept.specs.Proved.{provedAt, agedProof, isSome}
 use Rattle.lookup.specs.Look.{heldIn, liveFor}
 use Rattle.enter.specs.Enter.{entered}
 use Rattle.table.specs.Table.{emptyTable}
 use Rattle.lists.specs.Laws.{by-cases}
 use Rattle.kept.specs.Same.{same-eq}
-use Rattle.table.proofs.Aging.{whole-tidy, fresh-now, tidy-expired}
+use Rattle.expiry.proofs.Aging.{whole-tidy, fresh-now, tidy-expired}
 use Rattle.kept.specs.Proving.{live-proved, proof-later, proved-expired, proved-own, proved-other}
 use Rattle.participant.specs.Call.{agedTo}
 use Rattle.changes.specs.Renew.{renewed}

@@ -4,7 +4,7 @@ use mathlib.Core.Path.{_≡_, refl, ap, sym, _∙_}
 use mathlib.Core.Bool.{true, false}
 use mathlib.Core.List.{List, [], _∷_, _++_}
 use Rattle.members.specs.declared.mi.Mi.{Mi}
-use Rattle.participant.specs.Create.{badStart, fresh, nobody}
+use Rattle.creation.specs.Create.{badStart, fresh, nobody}
 use Rattle.participant.specs.declared.record.Participant.{Participant}
 use Rattle.participant.specs.declared.call.Called.{Called}
 use Rattle.participant.specs.declared.call.Answer.the-variants.{Done}

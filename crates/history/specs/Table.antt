@@ -5,13 +5,13 @@ use mathlib.Core.Bool.{true}
 use mathlib.Core.List.{List, [], _∷_, _++_, List·Memᴰ, List·Memᴰ·head, Memᴰ·append-right}
 use lib.ListN.{length}
 use borrow.Author.Tests.{ltb-false}
-use Rattle.table.specs.Kept.{Kept, absent, distinct}
+use Rattle.expiry.specs.Kept.{Kept, absent, distinct}
 use Rattle.table.specs.Table.{entries}
-use Rattle.table.specs.Expiry.{expired}
+use Rattle.expiry.specs.Expiry.{expired}
 use Rattle.table.specs.declared.table.Peer.{Peer}
 use Rattle.table.specs.declared.table.Table.{Table}
 use Rattle.lists.specs.Laws.{first-of, second-of}
-use Rattle.table.proofs.Aging.{at-most-16, count-tidy}
+use Rattle.expiry.proofs.Aging.{at-most-16, count-tidy}
 use Rattle.kept.specs.Apart.{absent-clash}
 use Rattle.kept.specs.Keeping.{kept-empty, kept-expired, kept-entered}
 use Rattle.participant.specs.Call.{agedTo}

@@ -15,7 +15,7 @@ use Rattle.places.specs.Once.{holds, placesWith}
 use Rattle.sets.specs.Set.{lenAt, listLen, badBody, badShape, badHead, badSet, extentOf}
 use Rattle.walk.specs.List.{entriesFrom, listAt, entriesIn}
 use Rattle.walk.specs.Walk.{walkGo, walkFrom, walkOf}
-use Rattle.table.specs.Expiry.{rebuilt, expired}
+use Rattle.expiry.specs.Expiry.{rebuilt, expired}
 use Rattle.lookup.specs.Look.{heldIn, liveFor, potentialFor}
 use Rattle.enter.specs.Enter.{updated, replaced, enteredAt}
 use Rattle.table.specs.Table.{emptyTable, pushed}
@@ -24,7 +24,7 @@ use Rattle.election.specs.Elect.{elected}
 use Rattle.writer.specs.Frame.{headerOctets, fixedOctets, cknOctets, basicOctets, listSet, listOctets, bodyOctets, frameOf}
 use Rattle.questions.specs.Ask.{serverOf, electedSelf}
 use Rattle.participant.specs.Call.{agedTo, ticked}
-use Rattle.participant.specs.Create.{fresh, nobody, createdOf}
+use Rattle.creation.specs.Create.{fresh, nobody, createdOf}
 use Rattle.participant.specs.Keys.{noSlot, ofMember}
 use Rattle.judge.specs.Judge.{frameFacts}
 use Rattle.hearing.specs.Keys.{keyedOf}

@@ -12,7 +12,7 @@ use Rattle.table.specs.declared.table.Table.{Table}
 use Rattle.lookup.specs.declared.look.Held.the-variants.{At, Missing}
 use Rattle.table.specs.Table.{entries}
 use Rattle.lookup.specs.Look.{seek, heldIn}
-use Rattle.table.specs.Kept.{absent, distinct}
+use Rattle.expiry.specs.Kept.{absent, distinct}
 use Rattle.lists.specs.Laws.{by-cases, clash, never, first-of, second-of, every-mem}
 use Rattle.kept.specs.Same.{same-eq, same-refl}
 

@@ -18,10 +18,10 @@ use Rattle.enter.specs.declared.enter.Heard.{Heard}
 use Rattle.table.specs.Table.{blankPeer, entries, tableOf, pushed}
 use Rattle.lookup.specs.Look.{seek, heldIn, noRoomFor}
 use Rattle.enter.specs.Enter.{heldPeer, replaced, updated, enteredAt, entered, enterList}
-use Rattle.table.specs.Kept.{Tidy}
+use Rattle.expiry.specs.Kept.{Tidy}
 use Rattle.lists.specs.Laws.{by-cases, clash, never, pad-snoc}
 use Rattle.kept.specs.Same.{same-eq, same-refl}
-use Rattle.table.proofs.Aging.{whole-tidy}
+use Rattle.expiry.proofs.Aging.{whole-tidy}
 
 -- a proof by what looking up gave
 pub by-held {ℓ} : {C : Type ℓ} (held : Held) → ((i : ℕ) (p : Peer) → held ≡ At i p → C) → (held ≡ Missing → C) → C

@@ -15,7 +15,7 @@ use Rattle.lookup.specs.declared.look.Held.{Held}
 use Rattle.lookup.specs.declared.look.Held.the-variants.{At, Missing}
 use Rattle.enter.specs.declared.enter.Heard.{Heard}
 use Rattle.table.specs.Table.{room, blankPeer, pushed}
-use Rattle.table.specs.Expiry.{freshAt, stillPeer, steadyIn, oldestAt, stillFrom}
+use Rattle.expiry.specs.Expiry.{freshAt, stillPeer, steadyIn, oldestAt, stillFrom}
 use Rattle.lookup.specs.Look.{seek, firstAt, foundAt, noRoomFor}
 use Rattle.enter.specs.Enter.{heldPeer, updated, replaced, enteredAt, placeFor, grownBy}
 use Rattle.lists.specs.Laws.{by-cases, loop-next, drop-end}

@@ -14,13 +14,13 @@ use Rattle.lookup.specs.declared.look.Held.{Held}
 use Rattle.enter.specs.declared.enter.Heard.{Heard}
 use Rattle.lists.specs.Lists.{every}
 use Rattle.table.specs.Table.{blankPeer, entries, emptyTable}
-use Rattle.table.specs.Expiry.{freshAt, freshPeer, lapsed, unproven, agedPeer, agedList, steadyIn, expired}
+use Rattle.expiry.specs.Expiry.{freshAt, freshPeer, lapsed, unproven, agedPeer, agedList, steadyIn, expired}
 use Rattle.lookup.specs.Look.{heldIn, staleFor, noRoomFor}
 use Rattle.enter.specs.Enter.{updated, enterList, entered}
-use Rattle.table.specs.Kept.{absent, distinct, numbered, timely, freshProof, ordered, Kept}
+use Rattle.expiry.specs.Kept.{absent, distinct, numbered, timely, freshProof, ordered, Kept}
 use Rattle.lists.specs.Laws.{by-cases, clash, both, first-of, second-of}
 use Rattle.kept.specs.Same.{same-eq, same-sym}
-use Rattle.table.proofs.Aging.{whole-tidy, fresh-now, aged-same, entries-expired, tidy-expired, expired-steady}
+use Rattle.expiry.proofs.Aging.{whole-tidy, fresh-now, aged-same, entries-expired, tidy-expired, expired-steady}
 use Rattle.kept.specs.Entering.{entries-entered, tidy-entered}
 
 -- ---- a test of each entry, over expiry and over entering

@@ -4,7 +4,7 @@ use mathlib.Core.Bool.{Bool, true, false, cond}
 use mathlib.Core.Option.{Option, none, some}
 use Rattle.lookup.specs.declared.look.Held.{Held}
 use Rattle.lookup.specs.declared.look.Held.the-variants.{At, Missing}
-use Rattle.table.specs.Expiry.{freshAt}
+use Rattle.expiry.specs.Expiry.{freshAt}
 
 -- When the identifier that was looked up was last proved.
 abbrev pub provedAt : Held → Option ℕ

@@ -15,14 +15,14 @@ use Rattle.lookup.specs.declared.look.Held.the-variants.{At, Missing}
 use Rattle.enter.specs.declared.enter.Heard.{Heard}
 use Rattle.lists.specs.Lists.{every}
 use Rattle.table.specs.Table.{entries}
-use Rattle.table.specs.Expiry.{freshAt, freshPeer, agedPeer, agedList, expired}
+use Rattle.expiry.specs.Expiry.{freshAt, freshPeer, agedPeer, agedList, expired}
 use Rattle.lookup.specs.Look.{seek, heldIn, noRoomFor, liveFor}
 use Rattle.enter.specs.Enter.{heldPeer, updated, entered}
-use Rattle.table.specs.Kept.{absent, distinct, ordered}
+use Rattle.expiry.specs.Kept.{absent, distinct, ordered}
 use Rattle.kept.specs.Proved.{provedAt, agedProof, isSome}
 use Rattle.lists.specs.Laws.{by-cases, first-of, second-of}
 use Rattle.kept.specs.Same.{same-eq}
-use Rattle.table.proofs.Aging.{old-later, old-before, aged-same, entries-expired}
+use Rattle.expiry.proofs.Aging.{old-later, old-before, aged-same, entries-expired}
 use Rattle.kept.specs.Entering.{own-entered, others-entered}
 use Rattle.kept.specs.Keeping.{absent-aged}
 use Rattle.kept.specs.Apart.{seek-absent}

@@ -11,7 +11,7 @@ use Rattle.page.specs.Text.{ascii, room, lineOf, endedOf}
 use native.Mathlib.Omega.{arith}
 use lib.ListN.{length, length-append, replicate, set}
 use Rattle.counts.specs.Counts.{liveCount, potentialCount}
-use Rattle.table.proofs.Aging.{at-most-16}
+use Rattle.expiry.proofs.Aging.{at-most-16}
 use Rattle.counts.proofs.Listing.{live-potential}
 use Rattle.participant.specs.declared.record.Participant.{Participant}
 use Rattle.questions.specs.Ask.{serverOf}

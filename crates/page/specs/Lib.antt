@@ -1,4 +1,2 @@
 pub mod Text
 pub mod Status
-pub mod Show
-pub mod Cases

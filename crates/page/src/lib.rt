@@ -1,4 +1,3 @@
 // The line of the port page.
 pub mod line;
-pub mod show;
 pub mod status;

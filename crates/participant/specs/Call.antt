@@ -4,7 +4,7 @@ use mathlib.Core.Bool.{Bool, cond}
 use mathlib.Core.List.{List, [], _∷_}
 use lib.Dec.{ltb, eqb}
 use Rattle.facts.specs.Facts.{firstOf}
-use Rattle.table.specs.Expiry.{expired}
+use Rattle.expiry.specs.Expiry.{expired}
 use Rattle.participant.specs.declared.record.Participant.{Participant}
 use Rattle.participant.specs.declared.call.Answer.the-variants.{Done, Refused}
 use Rattle.participant.specs.declared.call.Called.{Called}

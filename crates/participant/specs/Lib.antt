@@ -1,4 +1,3 @@
 pub mod Record
 pub mod Call
 pub mod Keys
-pub mod Create

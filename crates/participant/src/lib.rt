@@ -1,5 +1,4 @@
-// One participant by value: its record, its keys, its creation.
+// One participant by value: its record and its keys, and what a call answers.
 pub mod call;
-pub mod create;
 pub mod keys;
 pub mod record;

@@ -8,16 +8,16 @@ use crate::status;
 use changes::renew;
 use changes::report;
 use changes::tick;
+use creation::create;
 use image::write;
 use members::mi;
 use octets::number;
-use page::show;
 use participant::call::Answer;
 use participant::call::Called;
-use participant::create;
 use participant::record::Participant;
 use receive::receive::Answer as Heard;
 use send::send::Answer as Sent;
+use shown::show;
 use writer::mkpdu::Wrote;
 
 // A call that answers done or refused.

@@ -1,8 +1,8 @@
 // The participant that a script works on, if a create has succeeded, and what a record's playing gives.
 use crate::print;
+use creation::create;
 use members::mi::Mi;
 use participant::call::Called;
-use participant::create;
 use participant::record::Participant;
 
 pub(crate) struct State {

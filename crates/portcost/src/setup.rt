@@ -1,9 +1,9 @@
 // The calls that make the participant. Each payload is that of a call script's record; a send has room enough.
+use creation::create;
 use members::mi;
 use members::mi::Mi;
 use octets::number;
 use octets::run;
-use participant::create;
 use participant::record::Participant;
 
 pub(crate) fn nobody() -> Participant {

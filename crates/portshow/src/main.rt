@@ -2,7 +2,7 @@
 use libc::STDIN_FILENO;
 use libc::STDOUT_FILENO;
 use page::line::Line;
-use page::show;
+use shown::show;
 
 fn say(l: Line) {
     let text = l.text;

@@ -6,7 +6,7 @@ use Rattle.election.specs.declared.elect.Rank.{Rank}
 use Rattle.election.specs.declared.elect.Server.{Server}
 use Rattle.election.specs.declared.elect.Server.the-variants.{Nobody, Ourselves, Elected}
 use Rattle.election.specs.Elect.{elected}
-use Rattle.table.specs.Expiry.{freshAt}
+use Rattle.expiry.specs.Expiry.{freshAt}
 use Rattle.counts.specs.Counts.{potentialCount}
 use Rattle.participant.specs.declared.record.Participant.{Participant}
 

@@ -5,7 +5,6 @@ use election::elect::Server;
 use lookup::look;
 use members::mi::Mi;
 use participant::record::Participant;
-use table::expiry;
 ghost use mathlib.Core.Path.{_≡_};
 ghost use Rattle.counts.specs.Counts.{liveCount, potentialCount};
 ghost use Rattle.lookup.specs.Look.{heldIn, liveFor, potentialFor};
@@ -49,7 +48,7 @@ fn settled_down(p: Participant) -> bool
     if p.kn == 0 {
         return true;
     }
-    if !expiry::fresh(p.clock, p.distributed) {
+    if !expiry::expiry::fresh(p.clock, p.distributed) {
         return true;
     }
     let table = p.table;

@@ -14,7 +14,7 @@ use Rattle.sets.proofs.Laws.{or-false}
 use Rattle.lists.specs.Laws.{by-cases, clash, both, first-of, second-of}
 use Rattle.kept.specs.Same.{same-eq, same-refl, same-sym}
 use Rattle.participant.specs.Call.{agedTo}
-use Rattle.participant.specs.Create.{fresh}
+use Rattle.creation.specs.Create.{fresh}
 use Rattle.changes.specs.Renew.{taken, renewed}
 use Rattle.changes.specs.Report.{misreported, installed}
 use Rattle.distribute.specs.Distribute.{confidentialityOf, freshKey, withFresh}

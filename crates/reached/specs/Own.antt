@@ -12,7 +12,7 @@ use Rattle.members.proofs.Laws.{Fitting}
 use Rattle.sets.proofs.Laws.{or-false}
 use Rattle.lists.specs.Laws.{both}
 use Rattle.participant.specs.Call.{agedTo}
-use Rattle.participant.specs.Create.{badStart, fresh, nobody}
+use Rattle.creation.specs.Create.{badStart, fresh, nobody}
 use Rattle.participant.specs.Record.{first32}
 use Rattle.changes.specs.Renew.{renewed}
 use Rattle.distribute.specs.Distribute.{withFresh}

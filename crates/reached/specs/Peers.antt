@@ -11,19 +11,19 @@ use Rattle.members.proofs.Laws.{Fitting}
 use Rattle.frame.specs.Basic.{basicFields}
 use Rattle.lists.specs.Lists.{every}
 use Rattle.table.specs.Table.{blankPeer, entries}
-use Rattle.table.specs.Expiry.{freshPeer, lapsed, agedPeer, agedList, expired}
+use Rattle.expiry.specs.Expiry.{freshPeer, lapsed, agedPeer, agedList, expired}
 use Rattle.enter.specs.Enter.{updated, enterList, entered}
 use Rattle.lookup.specs.Look.{heldIn, noRoomFor}
-use Rattle.table.specs.Kept.{Tidy}
+use Rattle.expiry.specs.Kept.{Tidy}
 use Rattle.enter.specs.declared.enter.Heard.{Heard}
 use Rattle.table.specs.declared.table.Peer.{Peer}
 use Rattle.table.specs.declared.table.Table.{Table}
 use Rattle.lists.specs.Laws.{by-cases}
-use Rattle.table.proofs.Aging.{aged-same, whole-tidy, tidy-expired, entries-empty, entries-expired}
+use Rattle.expiry.proofs.Aging.{aged-same, whole-tidy, tidy-expired, entries-empty, entries-expired}
 use Rattle.kept.specs.Entering.{entries-entered}
 use Rattle.kept.specs.Keeping.{every-aged, every-entered}
 use Rattle.participant.specs.Call.{agedTo}
-use Rattle.participant.specs.Create.{fresh}
+use Rattle.creation.specs.Create.{fresh}
 use Rattle.changes.specs.Renew.{renewed}
 use Rattle.distribute.specs.Distribute.{withFresh}
 use Rattle.participant.specs.Keys.{withKey}

@@ -6,7 +6,7 @@ use lib.Dec.{eqb, leb, ltb}
 use Rattle.table.specs.Table.{tableOf}
 use Rattle.participant.specs.Record.{setTable, setLatest, setOld}
 use Rattle.participant.specs.Call.{settle}
-use Rattle.participant.specs.Create.{nobody}
+use Rattle.creation.specs.Create.{nobody}
 use Rattle.participant.specs.declared.record.Participant.{Participant}
 use Rattle.participant.specs.declared.call.Called.{Called}
 use Rattle.layout.specs.Layout.{recordsAt, offsetAt, laidOut}

@@ -1,10 +1,10 @@
 // Reading an image back: refusal 16.
+use creation::create;
 use facts::Check;
 use layout::contents;
 use own::record;
 use participant::call;
 use participant::call::Called;
-use participant::create;
 use participant::record::Participant;
 use rules::kept;
 ghost use mathlib.Core.Path.{_≡_};

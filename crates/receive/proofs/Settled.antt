@@ -10,13 +10,13 @@ use Rattle.frame.specs.declared.basic.Basic.{Basic}
 use Rattle.places.specs.declared.once.Spot.{Spot}
 use Rattle.places.specs.declared.once.Places.{Places}
 use Rattle.table.specs.Table.{entries}
-use Rattle.table.specs.Expiry.{steadyIn}
+use Rattle.expiry.specs.Expiry.{steadyIn}
 use Rattle.lookup.specs.Look.{heldIn, staleFor, noRoomFor, becomesLive}
 use Rattle.enter.specs.Enter.{updated, placeFor, grownBy}
 use Rattle.enter.specs.Enter.{heldPeer}
 use Rattle.table.specs.declared.table.Table.{Table}
 use Rattle.lookup.specs.declared.look.Held.{Held}
-use Rattle.table.proofs.Aging.{expired-steady}
+use Rattle.expiry.proofs.Aging.{expired-steady}
 use Rattle.kept.specs.InPlace.{in-place}
 use Rattle.participant.specs.Record.{setMark, setClock, setTable}
 use Rattle.participant.specs.Call.{agedTo}

@@ -11,7 +11,6 @@ use members::mi;
 use members::mi::Mi;
 use participant::record::Participant;
 use places::once::Spot;
-use table::expiry;
 use table::table::ROOM;
 use table::table::Table;
 ghost use mathlib.Core.Path.{_≡_};
@@ -124,12 +123,12 @@ pub fn receive(p: Participant, time: u64, verdict: bool, frame: &[u8]) -> Receiv
     let mut t = p.table;
     let count = t.count;
     let n = facts::at_most(count, ROOM);
-    let from = expiry::oldest(time);
+    let from = expiry::expiry::oldest(time);
     let mut at = n;
     let mut i: usize = 0;
     while i < n {
         let e = t.peers[i];
-        if !expiry::still_from(e, from) {
+        if !expiry::expiry::still_from(e, from) {
             let aside = p;
             let r = late::late(aside, time, frame, b, w);
             return r;

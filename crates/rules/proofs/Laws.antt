@@ -13,8 +13,8 @@ use Rattle.table.specs.declared.table.Peer.{Peer}
 use Rattle.table.specs.declared.table.Table.{Table}
 use Rattle.lists.specs.Lists.{every}
 use Rattle.table.specs.Table.{entries}
-use Rattle.table.specs.Expiry.{freshPeer}
-use Rattle.table.specs.Kept.{absent, distinct, numbered, timely, freshProof, ordered, Kept}
+use Rattle.expiry.specs.Expiry.{freshPeer}
+use Rattle.expiry.specs.Kept.{absent, distinct, numbered, timely, freshProof, ordered, Kept}
 use Rattle.lists.specs.Laws.{both, first-of, second-of}
 use Rattle.rules.specs.Rules.{zeros, twoBits, timesGood, peerGood, peersGood, PeerRules}
 

@@ -9,10 +9,10 @@ use Rattle.members.specs.Mi.{miSame}
 use Rattle.members.specs.declared.mi.Mi.{Mi}
 use Rattle.lists.specs.Lists.{every}
 use Rattle.table.specs.Table.{entries}
-use Rattle.table.specs.Expiry.{freshPeer}
-use Rattle.table.specs.Kept.{absent, distinct, numbered, timely, freshProof, ordered}
+use Rattle.expiry.specs.Expiry.{freshPeer}
+use Rattle.expiry.specs.Kept.{absent, distinct, numbered, timely, freshProof, ordered}
 use Rattle.table.specs.declared.table.Peer.{Peer}
-use Rattle.participant.specs.Create.{badStart}
+use Rattle.creation.specs.Create.{badStart}
 use Rattle.participant.specs.Keys.{isKey}
 use Rattle.participant.specs.declared.record.Key.{Key}
 use Rattle.participant.specs.declared.record.Slot.{Slot}

@@ -1,19 +1,18 @@
 // The rules that go for what a participant holds.
+use creation::create;
 use members::mi;
 use members::mi::Mi;
-use participant::create;
 use participant::keys;
 use participant::record::Key;
 use participant::record::Participant;
 use participant::record::Slot;
-use table::expiry;
 use table::table::Peer;
 use table::table::ROOM;
 use table::table::Table;
 ghost use mathlib.Core.Path.{_≡_};
 ghost use lib.ListN.{drop};
 ghost use Rattle.table.specs.Table.{entries};
-ghost use Rattle.table.specs.Kept.{absent, freshProof, ordered};
+ghost use Rattle.expiry.specs.Kept.{absent, freshProof, ordered};
 ghost use Rattle.rules.specs.Rules.{zeros, unsentZero, undistributedZero, unusedZero, ownGood, timesGood, peerGood, peersGood, useGood, numberGood, keyGood, slotGood, keysGood, rules};
 
 // Whether all octets from a place on are 0.
@@ -84,7 +83,7 @@ fn proof_fresh(clock: u64, q: Peer) -> bool
     ensures { λ r. ⌜ r ≡ freshProof clock q ⌝ }
 {
     if q.proven {
-        return expiry::fresh(clock, q.proof);
+        return expiry::expiry::fresh(clock, q.proof);
     }
     true
 }
@@ -104,7 +103,7 @@ fn times_good(clock: u64, q: Peer) -> bool
     if clock < q.accepted {
         return false;
     }
-    if !expiry::fresh(clock, q.accepted) {
+    if !expiry::expiry::fresh(clock, q.accepted) {
         return false;
     }
     if !proof_fresh(clock, q) {

@@ -15,9 +15,9 @@ use Rattle.members.specs.Mi.{miAt}
 use Rattle.members.proofs.Laws.{Fitting}
 use Rattle.packed.specs.Bit.{bit}
 use Rattle.table.specs.Table.{entries, tableOf}
-use Rattle.table.specs.Kept.{Tidy}
+use Rattle.expiry.specs.Kept.{Tidy}
 use Rattle.table.specs.declared.table.Peer.{Peer}
-use Rattle.table.proofs.Aging.{entries-tableOf, tidy-tableOf}
+use Rattle.expiry.proofs.Aging.{entries-tableOf, tidy-tableOf}
 use Rattle.lists.specs.Laws.{by-cases, first-of, second-of, clash}
 use Rattle.participant.specs.Keys.{noSlot}
 use Rattle.participant.specs.declared.record.Participant.{Participant}

@@ -8,7 +8,7 @@ use lib.ListN.{length}
 use Rattle.octets.proofs.Laws.{Octets}
 use Rattle.lists.specs.Laws.{by-cases, never, clash}
 use Rattle.participant.specs.Call.{doneOf, refusedOf}
-use Rattle.participant.specs.Create.{nobody}
+use Rattle.creation.specs.Create.{nobody}
 use Rattle.participant.specs.declared.record.Participant.{Participant}
 use Rattle.participant.specs.declared.call.Answer.{Answer}
 use Rattle.participant.specs.declared.call.Answer.the-variants.{Done, Refused}

@@ -15,7 +15,7 @@ use Rattle.table.specs.declared.table.Peer.{Peer}
 use Rattle.lists.specs.Laws.{by-cases, both, first-of, second-of, clash}
 use Rattle.participant.specs.Record.{setTable, setLatest, setOld}
 use Rattle.participant.specs.Call.{doneOf}
-use Rattle.participant.specs.Create.{badStart}
+use Rattle.creation.specs.Create.{badStart}
 use Rattle.participant.specs.declared.record.Slot.{Slot}
 use Rattle.participant.specs.declared.record.Participant.{Participant}
 use Rattle.layout.specs.Layout.{Part, recordsAt, offsetAt, laidOf, bodies, laidOut}

@@ -2,7 +2,7 @@
 use mathlib.Core.Path.{_≡_}
 use mathlib.Core.Bool.{true, cond}
 use Rattle.table.specs.Table.{entries}
-use Rattle.table.specs.Kept.{Tidy}
+use Rattle.expiry.specs.Kept.{Tidy}
 use Rattle.participant.specs.Keys.{noSlot, slotOf}
 use Rattle.participant.specs.declared.record.Slot.{Slot}
 use Rattle.participant.specs.declared.record.Participant.{Participant}

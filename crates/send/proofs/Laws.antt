@@ -8,7 +8,7 @@ use lib.ListN.{length, drop}
 use borrow.Author.Tests.{ne-eqb, eqb-true, eqb-false}
 use Rattle.facts.specs.Facts.{firstOf}
 use Rattle.octets.specs.Run.{written}
-use Rattle.table.specs.Expiry.{expired}
+use Rattle.expiry.specs.Expiry.{expired}
 use Rattle.lists.specs.Laws.{by-cases, never}
 use Rattle.writer.specs.Frame.{wroteOf}
 use Rattle.writer.specs.declared.mkpdu.Wrote.the-variants as wrote

@@ -1,3 +1,2 @@
-// The peer table and its expiry. Every function is total, also on a table that no call would make.
-pub mod expiry;
+// The peer table: at most 16 entries by value.
 pub mod table;

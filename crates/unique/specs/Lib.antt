@@ -10,12 +10,14 @@ pub mod Sets
 pub mod Walk
 pub mod Reader
 pub mod Table
+pub mod Expiry
 pub mod Lookup
 pub mod Enter
 pub mod Counts
 pub mod Election
 pub mod Writer
 pub mod Participant
+pub mod Creation
 pub mod Questions
 pub mod Changes
 pub mod Distribute
@@ -31,3 +33,4 @@ pub mod Rules
 pub mod Image
 pub mod Reading
 pub mod Page
+pub mod Shown

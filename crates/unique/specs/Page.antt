@@ -8,8 +8,5 @@ page·line·ended κs a z z′ e e′ h h′ = same h h′
 pub page·line·refused : OneAnswer page.line.refused.Kinds.ps page.line.refused.Kinds.r page.line.refused.Reads.Learnt
 page·line·refused κs a z z′ e e′ h h′ = same h h′
 
-pub page·show·show : OneAnswer page.show.show.Kinds.ps page.show.show.Kinds.r page.show.show.Reads.Learnt
-page·show·show κs a z z′ e e′ h h′ = same h h′
-
 pub page·status·status : OneAnswer page.status.status.Kinds.ps page.status.status.Kinds.r page.status.status.Reads.Learnt
 page·status·status κs a z z′ e e′ h h′ = same h h′

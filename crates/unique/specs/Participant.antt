@@ -11,15 +11,6 @@ participant·call·refused κs a z z′ e e′ h h′ = same h h′
 pub participant·call·aged-to : OneAnswer participant.call.aged_to.Kinds.ps participant.call.aged_to.Kinds.r participant.call.aged_to.Reads.Learnt
 participant·call·aged-to κs a z z′ e e′ h h′ = same h h′
 
-pub participant·create·blank : OneAnswer participant.create.blank.Kinds.ps participant.create.blank.Kinds.r participant.create.blank.Reads.Learnt
-participant·create·blank κs a z z′ e e′ h h′ = same h h′
-
-pub participant·create·bad-start : OneAnswer participant.create.bad_start.Kinds.ps participant.create.bad_start.Kinds.r participant.create.bad_start.Reads.Learnt
-participant·create·bad-start κs a z z′ e e′ h h′ = same h h′
-
-pub participant·create·create : OneAnswer participant.create.create.Kinds.ps participant.create.create.Kinds.r participant.create.create.Reads.Learnt
-participant·create·create κs a z z′ e e′ h h′ = same h h′
-
 pub participant·keys·empty : OneAnswer participant.keys.empty.Kinds.ps participant.keys.empty.Kinds.r participant.keys.empty.Reads.Learnt
 participant·keys·empty κs a z z′ e e′ h h′ = same h h′
 

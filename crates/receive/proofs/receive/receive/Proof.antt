@@ -13,7 +13,7 @@ use Prim.Native.Nat.{_-_, _≤_, _<_}
 use mathlib.Core.Path.{_≡_, refl, sym, ap, _∙_}
 use lib.ListN.{getD, take, drop, length, length-map}
 use Rattle.table.specs.Table.{blankPeer, entries}
-use Rattle.table.specs.Expiry.{steadyIn}
+use Rattle.expiry.specs.Expiry.{steadyIn}
 use Rattle.lookup.specs.Look.{seek, heldIn, becomesLive}
 use Rattle.kept.specs.InPlace.{sought, first-below, steady-turn, sought-turn, sought-end, place-fits}
 use borrow.Author.Needs.{needs}

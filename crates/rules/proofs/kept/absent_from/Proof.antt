@@ -5,7 +5,7 @@ use mathlib.Core.List.{_∷_}
 use lib.ListN.{length-map, take, drop, getD}
 use borrow.Author.Needs.{needs}
 use Rattle.table.specs.Table.{room, blankPeer}
-use Rattle.table.specs.Kept.{absent}
+use Rattle.expiry.specs.Kept.{absent}
 use Rattle.lists.specs.Laws.{loop-next, drop-end}
 use Rattle.rules.proofs.kept.absent_from.Statement.{statement}
 use Rattle.rules.proofs.kept.absent_from.Tie as tie

@@ -1,0 +1,2 @@
+// Creating a participant.
+pub mod create;

@@ -1,0 +1,2 @@
+// The line of the port page for the octets of an image.
+pub mod show;

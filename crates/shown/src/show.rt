@@ -1,0 +1,22 @@
+// The line of an image: what `portshow` prints.
+use page::line;
+use page::line::Line;
+use page::status;
+use participant::call::Answer;
+use reading::read;
+ghost use mathlib.Core.Path.{_≡_};
+ghost use Rattle.shown.specs.Show.{shownOf};
+
+pub fn show(image: &[u8]) -> Line
+    ensures { λ r. ⌜ r ≡ shownOf (now (image .entry)) ⌝ }
+{
+    let r = read::read(image);
+    let a = r.answer;
+    match a {
+        Answer::Done => {
+            let p = r.participant;
+            line::ended(status::status(p))
+        }
+        Answer::Refused(n) => line::refused(n),
+    }
+}

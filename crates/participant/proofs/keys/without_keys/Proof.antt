@@ -11,7 +11,7 @@ empty-requires-2 c κs = search needs
 
 returns : tie.Need-returns
 unfolding withoutKeys
-returns c = rw (c .before .empty .ensures, c .empty2 .ensures)
+returns c = simp (c .before .empty .ensures, c .empty2 .ensures)
 
 pub without-keys-spec : {M : Type 1} → statement M
 without-keys-spec = tie.close (tie.spec empty-requires empty-requires-2 returns)

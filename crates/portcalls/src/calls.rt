@@ -1,4 +1,4 @@
-// Each op of a call script: its payload read, its call made, its line printed.
+// Each op of a call script: its payload's shape, its call, its line.
 use crate::listing;
 use crate::print;
 use crate::state;
@@ -12,6 +12,7 @@ use creation::create;
 use image::write;
 use members::mi;
 use octets::number;
+use octets::run;
 use participant::call::Answer;
 use participant::call::Called;
 use participant::record::Participant;
@@ -19,32 +20,77 @@ use receive::receive::Answer as Heard;
 use send::send::Answer as Sent;
 use shown::show;
 use writer::mkpdu::Wrote;
+ghost use Prim.Native.Nat.{_≤_};
 
-// A call that answers done or refused.
-fn called(s: State, r: Called, out: &mut [u8], word: &[u8]) -> Played {
-    let a = r.answer;
-    match a {
-        Answer::Done => {
-            let p = r.participant;
-            let n = print::words(out, 0, word);
-            state::with(p, n)
+// Whether a payload has the shape of its op's.
+fn shaped(op: u8, d: &[u8]) -> bool {
+    let n = d.len();
+    match op {
+        1 => 31 <= n,
+        2 => 9 <= n,
+        3 => n == 18,
+        4 => 8 <= n,
+        5 => n == 8,
+        6 => n == 20,
+        7 => {
+            let what = number::octet(d, 0);
+            if n != 17 {
+                return false;
+            }
+            if what == 0 {
+                return false;
+            }
+            what <= 2
         }
-        Answer::Refused(n) => {
-            let n = print::refused(out, 0, n);
-            state::same(s, n)
-        }
+        8 => n == 0,
+        9 => n == 2,
+        10 => true,
+        11 => true,
+        _ => false,
     }
 }
 
-fn none(s: State, out: &mut [u8]) -> Played {
-    let n = print::words(out, 0, b"none\n");
-    state::same(s, n)
+// The payload from a place on.
+fn rest(d: &[u8], at: usize) -> &[u8] {
+    run::part(d, at, facts::less(d.len(), at))
+}
+
+// The room at a place; over 2,048 counts as 2,048.
+fn room_at(d: &[u8], at: usize) -> usize
+    ensures { λ r. ⌜ r ≤ 2048 ⌝ }
+{
+    facts::at_most(number::u16_at(d, at) as usize, 2048)
+}
+
+fn octets(out: &mut [u8], word: &[u8], s: &[u8], len: usize) -> usize {
+    let n = print::words(out, 0, word);
+    let n = print::octets(out, n, s, len);
+    print::put(out, n, b'\n')
+}
+
+fn numbers(out: &mut [u8], word: &[u8], a: u64, b: u64) -> usize {
+    let n = print::words(out, 0, word);
+    let n = print::after(out, n, b' ', a);
+    let n = print::after(out, n, b' ', b);
+    print::put(out, n, b'\n')
+}
+
+fn answered(a: Answer, out: &mut [u8], word: &[u8]) -> usize {
+    match a {
+        Answer::Done => print::words(out, 0, word),
+        Answer::Refused(n) => print::refused(out, 0, n),
+    }
+}
+
+// A call that answers done or refused; a refused one hands the participant back as it was.
+fn called(r: Called, out: &mut [u8], word: &[u8]) -> Played {
+    let a = r.answer;
+    let n = answered(a, out, word);
+    let p = r.participant;
+    state::with(p, n)
 }
 
 fn make(s: State, d: &[u8], out: &mut [u8]) -> Played {
-    if d.len() < 31 {
-        return state::malformed(s, out);
-    }
     let m = mi::mi_at(d, 8);
     let desired = number::octet(d, 30) != 0;
     let r = create::create(
@@ -54,55 +100,46 @@ fn make(s: State, d: &[u8], out: &mut [u8]) -> Played {
         number::octet(d, 28),
         number::octet(d, 29),
         desired,
-        &d[31..],
+        rest(d, 31),
     );
-    called(s, r, out, b"created\n")
-}
-
-fn hear(s: State, d: &[u8], out: &mut [u8]) -> Played {
-    if d.len() < 9 {
-        return state::malformed(s, out);
-    }
-    if !s.held {
-        return none(s, out);
-    }
-    let p = s.participant;
-    let r = receive::receive::receive(p, number::u64_at(d, 0), number::octet(d, 8) != 0, &d[9..]);
     let a = r.answer;
+    if let Answer::Refused(n) = a {
+        let n = print::refused(out, 0, n);
+        return state::same(s, n);
+    }
+    called(r, out, b"created\n")
+}
+
+fn heard(a: Heard, out: &mut [u8]) -> usize {
     match a {
-        Heard::Accepted(place, len) => {
-            let q = r.participant;
-            let n = print::words(out, 0, b"accepted key");
-            let n = print::after(out, n, b' ', place as u64);
-            let n = print::after(out, n, b' ', len as u64);
-            let n = print::put(out, n, b'\n');
-            state::with(q, n)
-        }
-        Heard::Refused(n) => {
-            let n = print::refused(out, 0, n);
-            state::same(s, n)
-        }
+        Heard::Accepted(place, len) => numbers(out, b"accepted key", place as u64, len as u64),
+        Heard::Refused(n) => print::refused(out, 0, n),
     }
 }
 
-// The room at a place; over 2,048 counts as 2,048.
-fn room_at(d: &[u8], at: usize) -> usize {
-    facts::at_most(number::u16_at(d, at) as usize, 2048)
+fn hear(p: Participant, d: &[u8], out: &mut [u8]) -> Played {
+    let r = receive::receive::receive(
+        p,
+        number::u64_at(d, 0),
+        number::octet(d, 8) != 0,
+        rest(d, 9),
+    );
+    let a = r.answer;
+    let n = heard(a, out);
+    let q = r.participant;
+    state::with(q, n)
 }
 
-fn say(s: State, d: &[u8], out: &mut [u8]) -> Played {
-    if d.len() != 18 {
-        return state::malformed(s, out);
+fn sent(a: Sent, frame: &[u8], out: &mut [u8]) -> usize {
+    match a {
+        Sent::Octets(len) => octets(out, b"sent ", frame, len),
+        Sent::Refused(n) => print::refused(out, 0, n),
     }
-    if !s.held {
-        return none(s, out);
-    }
-    let p = s.participant;
+}
+
+fn say(p: Participant, d: &[u8], out: &mut [u8]) -> Played {
     let mut frame = [0u8; 2048];
     let room = room_at(d, 8);
-    if 2048 < room {
-        return none(s, out);
-    }
     let r = send::send::send(
         p,
         number::u64_at(d, 0),
@@ -111,153 +148,95 @@ fn say(s: State, d: &[u8], out: &mut [u8]) -> Played {
         &mut frame[..room],
     );
     let a = r.answer;
-    match a {
-        Sent::Octets(len) => {
-            let q = r.participant;
-            let n = print::words(out, 0, b"sent ");
-            let n = print::octets(out, n, &frame, len);
-            let n = print::put(out, n, b'\n');
-            state::with(q, n)
-        }
-        Sent::Refused(n) => {
-            let n = print::refused(out, 0, n);
-            state::same(s, n)
-        }
-    }
+    let n = sent(a, &frame, out);
+    let q = r.participant;
+    state::with(q, n)
 }
 
-fn hand_out(s: State, d: &[u8], out: &mut [u8]) -> Played {
-    if d.len() < 8 {
-        return state::malformed(s, out);
-    }
-    if !s.held {
-        return none(s, out);
-    }
-    let p = s.participant;
-    let r = distribute::distribute::distribute(p, number::u64_at(d, 0), &d[8..]);
+fn handed(r: Called, out: &mut [u8]) -> usize {
     let a = r.answer;
     match a {
         Answer::Done => {
             let q = r.participant;
             let latest = q.latest;
             let k = latest.key;
-            let n = print::words(out, 0, b"distributed");
-            let n = print::after(out, n, b' ', k.kn as u64);
-            let n = print::after(out, n, b' ', k.an as u64);
-            let n = print::put(out, n, b'\n');
-            state::with(q, n)
+            numbers(out, b"distributed", k.kn as u64, k.an as u64)
         }
-        Answer::Refused(n) => {
-            let n = print::refused(out, 0, n);
-            state::same(s, n)
-        }
+        Answer::Refused(n) => print::refused(out, 0, n),
     }
 }
 
-fn pass(s: State, d: &[u8], out: &mut [u8]) -> Played {
-    if d.len() != 8 {
-        return state::malformed(s, out);
-    }
-    if !s.held {
-        return none(s, out);
-    }
-    let p = s.participant;
-    let r = tick::tick(p, number::u64_at(d, 0));
-    called(s, r, out, b"ticked\n")
+fn hand_out(p: Participant, d: &[u8], out: &mut [u8]) -> Played {
+    let r = distribute::distribute::distribute(p, number::u64_at(d, 0), rest(d, 8));
+    let n = handed(r, out);
+    let q = r.participant;
+    state::with(q, n)
 }
 
-fn rename(s: State, d: &[u8], out: &mut [u8]) -> Played {
-    if d.len() != 20 {
-        return state::malformed(s, out);
-    }
-    if !s.held {
-        return none(s, out);
-    }
-    let p = s.participant;
+fn install(p: Participant, d: &[u8], out: &mut [u8]) -> Played {
+    let m = mi::mi_at(d, 1);
+    let r = report::report(p, m, number::u32_at(d, 13), number::octet(d, 0) == 2);
+    called(r, out, b"reported\n")
+}
+
+fn rename(p: Participant, d: &[u8], out: &mut [u8]) -> Played {
     let m = mi::mi_at(d, 8);
     let r = renew::new_mi(p, number::u64_at(d, 0), m);
-    called(s, r, out, b"renewed\n")
+    called(r, out, b"renewed\n")
 }
 
-fn install(s: State, d: &[u8], out: &mut [u8]) -> Played {
-    if d.len() != 17 {
-        return state::malformed(s, out);
+fn saved(w: Wrote, image: &[u8], out: &mut [u8]) -> usize {
+    match w {
+        Wrote::Octets(len) => octets(out, b"image ", image, len),
+        Wrote::Refused(n) => print::refused(out, 0, n),
     }
-    let what = number::octet(d, 0);
-    if what == 0 {
-        return state::malformed(s, out);
-    }
-    if 2 < what {
-        return state::malformed(s, out);
-    }
-    if !s.held {
-        return none(s, out);
-    }
-    let p = s.participant;
-    let m = mi::mi_at(d, 1);
-    let r = report::report(p, m, number::u32_at(d, 13), what == 2);
-    called(s, r, out, b"reported\n")
 }
 
-fn ask(s: State, d: &[u8], out: &mut [u8]) -> Played {
-    if d.len() != 0 {
-        return state::malformed(s, out);
-    }
-    if !s.held {
-        return none(s, out);
-    }
-    let p = s.participant;
-    let n = status::line(out, p);
-    state::same(s, n)
-}
-
-fn save(s: State, d: &[u8], out: &mut [u8]) -> Played {
-    if d.len() != 2 {
-        return state::malformed(s, out);
-    }
-    if !s.held {
-        return none(s, out);
-    }
-    let p = s.participant;
+fn save(p: Participant, d: &[u8], out: &mut [u8]) -> Played {
     let mut image = [0u8; 2048];
     let room = room_at(d, 0);
-    if 2048 < room {
-        return none(s, out);
-    }
-    match write::write(&mut image[..room], p) {
-        Wrote::Octets(len) => {
-            let n = print::words(out, 0, b"image ");
-            let n = print::octets(out, n, &image, len);
-            let n = print::put(out, n, b'\n');
-            state::same(s, n)
+    let w = write::write(&mut image[..room], p);
+    let n = saved(w, &image, out);
+    state::with(p, n)
+}
+
+// The ops that work on a participant, 2 to 9.
+fn act(p: Participant, op: u8, d: &[u8], out: &mut [u8]) -> Played {
+    match op {
+        2 => hear(p, d, out),
+        3 => say(p, d, out),
+        4 => hand_out(p, d, out),
+        5 => called(tick::tick(p, number::u64_at(d, 0)), out, b"ticked\n"),
+        6 => rename(p, d, out),
+        7 => install(p, d, out),
+        8 => {
+            let n = status::line(out, p);
+            state::with(p, n)
         }
-        Wrote::Refused(n) => {
-            let n = print::refused(out, 0, n);
-            state::same(s, n)
-        }
+        _ => save(p, d, out),
     }
 }
 
 // One record.
 pub(crate) fn play(s: State, op: u8, d: &[u8], out: &mut [u8]) -> Played {
-    match op {
-        1 => make(s, d, out),
-        2 => hear(s, d, out),
-        3 => say(s, d, out),
-        4 => hand_out(s, d, out),
-        5 => pass(s, d, out),
-        6 => rename(s, d, out),
-        7 => install(s, d, out),
-        8 => ask(s, d, out),
-        9 => save(s, d, out),
-        10 => {
-            let n = print::line(out, 0, show::show(d));
-            state::same(s, n)
-        }
-        11 => {
-            let n = listing::line(out, d);
-            state::same(s, n)
-        }
-        _ => state::malformed(s, out),
+    if !shaped(op, d) {
+        return state::malformed(s, out);
     }
+    if op == 1 {
+        return make(s, d, out);
+    }
+    if op == 10 {
+        let n = print::line(out, 0, show::show(d));
+        return state::same(s, n);
+    }
+    if op == 11 {
+        let n = listing::line(out, d);
+        return state::same(s, n);
+    }
+    if !s.held {
+        let n = print::words(out, 0, b"none\n");
+        return state::same(s, n);
+    }
+    let p = s.participant;
+    act(p, op, d, out)
 }

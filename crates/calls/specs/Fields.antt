@@ -9,8 +9,8 @@ use Rattle.members.specs.declared.mi.Mi.{Mi}
 use Rattle.table.specs.Table.{emptyTable}
 use Rattle.expiry.specs.Expiry.{expired}
 use Rattle.lists.specs.Laws.{by-cases}
-use Rattle.participant.specs.declared.record.Slot.{Slot}
-use Rattle.participant.specs.declared.record.Participant.{Participant}
+use Rattle.participant.specs.declared.Slot.{Slot}
+use Rattle.participant.specs.declared.Participant.{Participant}
 use Rattle.participant.specs.declared.call.Called.{Called}
 use Rattle.participant.specs.declared.call.Answer.the-variants.{Done}
 use Rattle.participant.specs.Record.{first24, setMi, setMn, setMark, setClock, setSent, setKn, setDistributed, setWrapped, setTable, setLatest, setOld}

@@ -7,7 +7,7 @@ use native.Mathlib.Omega.{arith}
 use borrow.Author.Tests.{eqb-false}
 use Rattle.facts.specs.Facts.{firstOf}
 use Rattle.members.specs.Mi.{miSame}
-use Rattle.participant.specs.declared.record.Participant.{Participant}
+use Rattle.participant.specs.declared.Participant.{Participant}
 use Rattle.participant.specs.Call.{settle, fact1, agedTo}
 use Rattle.participant.specs.Record.{first24}
 use Rattle.distribute.specs.Distribute.{withFresh, distributedOf}

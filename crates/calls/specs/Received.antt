@@ -10,18 +10,18 @@ use Rattle.facts.specs.Facts.{firstOf}
 use Rattle.members.specs.declared.mi.Mi.{Mi}
 use Rattle.frame.specs.declared.basic.Basic.{Basic}
 use Rattle.sets.specs.Kinds.{sakIn}
-use Rattle.places.specs.declared.once.Spot.{Spot}
-use Rattle.places.specs.declared.once.Places.{Places}
+use Rattle.places.specs.declared.Spot.{Spot}
+use Rattle.places.specs.declared.Places.{Places}
 use Rattle.participant.specs.Call.{agedTo}
 use Rattle.participant.specs.Keys.{withKey, withoutKeys}
-use Rattle.participant.specs.declared.record.Participant.{Participant}
+use Rattle.participant.specs.declared.Participant.{Participant}
 use Rattle.participant.proofs.Settle.{First, NoneHolds, first-holds, none-holds}
 use Rattle.judge.specs.Judge.{basicIn, walkIn, placesIn, frameFacts}
 use Rattle.hearing.specs.Keys.{isServer, isKnown, keyedOf}
 use Rattle.receive.specs.Receive.{admitted, tableFacts, receiveFacts, refusedOf, acceptedOf, updatedBy, acceptedBy, receivedOf}
 use Rattle.hearing.specs.declared.keys.Keyed.{Keyed}
-use Rattle.receive.specs.declared.receive.Answer.the-variants.{Accepted, Refused}
-use Rattle.receive.specs.declared.receive.Received.{Received}
+use Rattle.receive.specs.declared.Answer.the-variants.{Accepted, Refused}
+use Rattle.receive.specs.declared.Received.{Received}
 
 cond-clock : (t : Bool) (x y : Keyed) (c : ℕ) → x .participant .clock ≡ c → y .participant .clock ≡ c → cond t x y .participant .clock ≡ c
 cond-clock true x y c h k = h

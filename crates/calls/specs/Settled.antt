@@ -7,7 +7,7 @@ use lib.ListN.{length}
 use lib.Dec.{eqb}
 use Rattle.members.specs.declared.mi.Mi.{Mi}
 use Rattle.lists.specs.Laws.{by-cases}
-use Rattle.participant.specs.declared.record.Participant.{Participant}
+use Rattle.participant.specs.declared.Participant.{Participant}
 use Rattle.participant.specs.declared.call.Answer.the-variants.{Done}
 use Rattle.participant.specs.Call.{settle, fact1, agedTo, ticked}
 use Rattle.participant.specs.Record.{first24, setLatest}

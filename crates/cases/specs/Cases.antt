@@ -20,14 +20,14 @@ use Rattle.enter.specs.Enter.{updated, replaced, enteredAt}
 use Rattle.table.specs.Table.{emptyTable, pushed}
 use Rattle.counts.specs.Counts.{liveCount, liveList, potentialList}
 use Rattle.election.specs.Elect.{elected}
-use Rattle.election.specs.declared.elect.Server.the-variants.{Nobody, Ourselves, Elected}
+use Rattle.election.specs.declared.Server.the-variants.{Nobody, Ourselves, Elected}
 use Rattle.writer.specs.Frame.{headerOctets, fixedOctets, cknOctets, basicOctets, listSet, listOctets, bodyOctets, frameOf}
 use Rattle.questions.specs.Ask.{serverOf, electedSelf}
 use Rattle.participant.specs.Call.{agedTo, ticked}
 use Rattle.creation.specs.Create.{fresh, nobody, createdOf}
 use Rattle.participant.specs.Record.{setMn}
 use Rattle.participant.specs.Keys.{noSlot, ofMember}
-use Rattle.participant.specs.declared.record.Participant.{Participant}
+use Rattle.participant.specs.declared.Participant.{Participant}
 use Rattle.judge.specs.Judge.{frameFacts}
 use Rattle.hearing.specs.Keys.{keyedOf}
 use Rattle.hearing.specs.Proof.{isRecent, namedIn, provesIn}

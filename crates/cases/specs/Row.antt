@@ -4,10 +4,10 @@ use mathlib.Core.Bool.{Bool}
 use mathlib.Core.List.{List}
 use Rattle.frame.specs.declared.basic.BasicRead.{BasicRead}
 use Rattle.frame.specs.declared.basic.BasicRead.the-variants as onBasic
-use Rattle.election.specs.declared.elect.Server.{Server}
+use Rattle.election.specs.declared.Server.{Server}
 use Rattle.participant.specs.declared.call.Answer.the-variants as onCall
-use Rattle.receive.specs.declared.receive.Answer.the-variants as onReceive
-use Rattle.send.specs.declared.send.Answer.the-variants as onSend
+use Rattle.receive.specs.declared.Answer.the-variants as onReceive
+use Rattle.send.specs.declared.Answer.the-variants as onSend
 use Rattle.writer.specs.declared.mkpdu.Wrote.the-variants as onWrite
 use Rattle.history.specs.Calls.{Answer, received, sent, called, shown, saved}
 

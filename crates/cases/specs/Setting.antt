@@ -5,10 +5,10 @@ use mathlib.Core.List.{List, [], _∷_, _++_}
 use lib.ListN.{length, replicate}
 use Rattle.members.specs.declared.mi.Mi.{Mi}
 use Rattle.table.specs.Table.{tableOf}
-use Rattle.table.specs.declared.table.Peer.{Peer}
+use Rattle.table.specs.declared.Peer.{Peer}
 use Rattle.lookup.specs.Look.{heldIn, liveFor, potentialFor}
 use Rattle.participant.specs.Record.{setClock, setTable}
-use Rattle.participant.specs.declared.record.Participant.{Participant}
+use Rattle.participant.specs.declared.Participant.{Participant}
 use Rattle.history.specs.Calls.{Creation, Call, sends, after, answerOf}
 use Rattle.cases.specs.Row.{Outcome, yes-no, ended}
 

@@ -6,7 +6,7 @@ use lib.ListN.{replicate}
 use Rattle.members.specs.Mi.{miSame}
 use Rattle.members.specs.declared.mi.Mi.{Mi}
 use Rattle.table.specs.Table.{emptyTable}
-use Rattle.participant.specs.declared.record.Participant.{Participant}
+use Rattle.participant.specs.declared.Participant.{Participant}
 use Rattle.participant.specs.declared.call.Called.{Called}
 use Rattle.participant.specs.Record.{setMi, setMn, setKn, setMark, setWrapped, setSent, setDistributed, setTable, setClock}
 use Rattle.participant.specs.Call.{settle, fact1}

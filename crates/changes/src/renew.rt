@@ -2,10 +2,10 @@
 use facts::Check;
 use members::mi;
 use members::mi::Mi;
+use participant::Participant;
 use participant::call;
 use participant::call::Called;
 use participant::keys;
-use participant::record::Participant;
 ghost use mathlib.Core.Path.{_≡_};
 ghost use Rattle.changes.specs.Renew.{taken, renewed, newMiOf};
 
@@ -36,7 +36,7 @@ fn renew(p: Participant, time: u64, m: Mi) -> Participant
     q.wrapped = [0u8; 24];
     q.sent = 0;
     q.distributed = 0;
-    q.table = table::table::empty();
+    q.table = table::empty();
     q.clock = time;
     q
 }

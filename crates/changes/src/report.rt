@@ -1,11 +1,11 @@
 // An installation report: refusal 18.
 use facts::Check;
 use members::mi::Mi;
+use participant::Participant;
+use participant::Slot;
 use participant::call;
 use participant::call::Called;
 use participant::keys;
-use participant::record::Participant;
-use participant::record::Slot;
 ghost use mathlib.Core.Path.{_≡_};
 ghost use Rattle.changes.specs.Report.{misreported, installed, reported};
 

@@ -1,8 +1,8 @@
 // Time passes: refusal 1.
 use facts::Check;
+use participant::Participant;
 use participant::call;
 use participant::call::Called;
-use participant::record::Participant;
 ghost use mathlib.Core.Path.{_≡_};
 ghost use Rattle.participant.specs.Call.{ticked};
 

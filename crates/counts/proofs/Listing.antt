@@ -7,8 +7,8 @@ use native.Mathlib.Omega.{arith}
 use lib.ListN.{length}
 use Rattle.members.specs.declared.entry.Entry.{Entry}
 use Rattle.members.specs.Entry.{entriesOf}
-use Rattle.table.specs.declared.table.Peer.{Peer}
-use Rattle.table.specs.declared.table.Table.{Table}
+use Rattle.table.specs.declared.Peer.{Peer}
+use Rattle.table.specs.declared.Table.{Table}
 use Rattle.lists.specs.Lists.{those}
 use Rattle.table.specs.Table.{entries}
 use Rattle.lookup.specs.Look.{isLive, isPotential}

@@ -5,8 +5,8 @@ use mathlib.Core.List.{List, map}
 use lib.ListN.{length}
 use Rattle.members.specs.declared.entry.Entry.{Entry}
 use Rattle.members.specs.declared.entry.Entries.{Entries}
-use Rattle.table.specs.declared.table.Peer.{Peer}
-use Rattle.table.specs.declared.table.Table.{Table}
+use Rattle.table.specs.declared.Peer.{Peer}
+use Rattle.table.specs.declared.Table.{Table}
 use Rattle.lists.specs.Lists.{those, pad}
 use Rattle.table.specs.Table.{room, entries}
 use Rattle.lookup.specs.Look.{isLive, isPotential}

@@ -6,7 +6,7 @@ use lib.ListN.{length, replicate}
 use lib.Dec.{ltb, eqb}
 use Rattle.members.specs.declared.mi.Mi.{Mi}
 use Rattle.table.specs.Table.{emptyTable}
-use Rattle.participant.specs.declared.record.Participant.{Participant}
+use Rattle.participant.specs.declared.Participant.{Participant}
 use Rattle.participant.specs.declared.call.Called.{Called}
 use Rattle.participant.specs.Record.{first32}
 use Rattle.participant.specs.Call.{settle}

@@ -4,9 +4,9 @@ use mathlib.Core.Bool.{false, cond, not}
 use mathlib.Core.List.{List, [], _∷_}
 use lib.ListN.{length}
 use lib.Dec.{eqb}
-use Rattle.participant.specs.declared.record.Key.{Key}
-use Rattle.participant.specs.declared.record.Slot.{Slot}
-use Rattle.participant.specs.declared.record.Participant.{Participant}
+use Rattle.participant.specs.declared.Key.{Key}
+use Rattle.participant.specs.declared.Slot.{Slot}
+use Rattle.participant.specs.declared.Participant.{Participant}
 use Rattle.participant.specs.declared.call.Called.{Called}
 use Rattle.participant.specs.Record.{first24, setKn, setMark, setDistributed, setWrapped}
 use Rattle.participant.specs.Call.{settle, fact1, agedTo}

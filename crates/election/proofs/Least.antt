@@ -8,13 +8,13 @@ use lib.ListN.{length}
 use lib.Dec.{eqb}
 use borrow.Author.Tests.{eqb-true, eq-eqb}
 use Rattle.members.specs.declared.mi.Mi.{Mi}
-use Rattle.table.specs.declared.table.Peer.{Peer}
-use Rattle.table.specs.declared.table.Table.{Table}
-use Rattle.election.specs.declared.elect.Rank.{Rank}
-use Rattle.election.specs.declared.elect.Lead.{Lead}
-use Rattle.election.specs.declared.elect.Lead.the-variants.{Neither, By}
-use Rattle.election.specs.declared.elect.Server.{Server}
-use Rattle.election.specs.declared.elect.Server.the-variants.{Nobody, Ourselves, Elected}
+use Rattle.table.specs.declared.Peer.{Peer}
+use Rattle.table.specs.declared.Table.{Table}
+use Rattle.election.specs.declared.Rank.{Rank}
+use Rattle.election.specs.declared.Lead.{Lead}
+use Rattle.election.specs.declared.Lead.the-variants.{Neither, By}
+use Rattle.election.specs.declared.Server.{Server}
+use Rattle.election.specs.declared.Server.the-variants.{Nobody, Ourselves, Elected}
 use Rattle.lists.specs.Lists.{those}
 use Rattle.table.specs.Table.{entries}
 use Rattle.lookup.specs.Look.{isLive, heldIn, liveFor}

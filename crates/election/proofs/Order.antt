@@ -6,7 +6,7 @@ use mathlib.Core.Logic.{_⊎_, inl, inr, ⊎-elim}
 use native.Mathlib.Omega.{arith}
 use lib.Dec.{ltb}
 use borrow.Author.Tests.{lt-ltb, le-ltb, ltb-true, ltb-false}
-use Rattle.election.specs.declared.elect.Rank.{Rank}
+use Rattle.election.specs.declared.Rank.{Rank}
 use Rattle.election.specs.Elect.{lex, lower}
 use Rattle.lists.specs.Laws.{by-cases, clash}
 

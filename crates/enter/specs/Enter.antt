@@ -4,11 +4,11 @@ use mathlib.Core.Bool.{Bool, cond, _||_}
 use mathlib.Core.List.{List, [], _∷_}
 use lib.ListN.{set}
 use Rattle.members.specs.Mi.{miSame}
-use Rattle.table.specs.declared.table.Peer.{Peer}
-use Rattle.table.specs.declared.table.Table.{Table}
-use Rattle.lookup.specs.declared.look.Held.{Held}
-use Rattle.lookup.specs.declared.look.Held.the-variants.{At, Missing}
-use Rattle.enter.specs.declared.enter.Heard.{Heard}
+use Rattle.table.specs.declared.Peer.{Peer}
+use Rattle.table.specs.declared.Table.{Table}
+use Rattle.lookup.specs.declared.Held.{Held}
+use Rattle.lookup.specs.declared.Held.the-variants.{At, Missing}
+use Rattle.enter.specs.declared.Heard.{Heard}
 use lib.Dec.{ltb}
 use Rattle.table.specs.Table.{room, blankPeer, pushed}
 use Rattle.lookup.specs.Look.{heldIn}

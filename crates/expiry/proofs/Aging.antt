@@ -6,8 +6,8 @@ use mathlib.Core.List.{List, [], _∷_}
 use native.Mathlib.Omega.{arith}
 use lib.ListN.{length, length-take}
 use borrow.Author.Tests.{ltb-false, le-ltb, lt-ltb, not-true}
-use Rattle.table.specs.declared.table.Peer.{Peer}
-use Rattle.table.specs.declared.table.Table.{Table}
+use Rattle.table.specs.declared.Peer.{Peer}
+use Rattle.table.specs.declared.Table.{Table}
 use Rattle.lists.specs.Lists.{those}
 use Rattle.table.specs.Table.{room, blankPeer, entries, tableOf, emptyTable}
 use Rattle.expiry.specs.Expiry.{lifeTime, freshAt, freshPeer, lapsed, unproven, agedPeer, agedList, stillPeer, steadyIn, rebuilt, expired}

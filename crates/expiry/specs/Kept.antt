@@ -6,8 +6,8 @@ use mathlib.Core.List.{List, [], _∷_}
 use lib.Dec.{leb, eqb}
 use Rattle.members.specs.declared.mi.Mi.{Mi}
 use Rattle.members.specs.Mi.{miSame}
-use Rattle.table.specs.declared.table.Peer.{Peer}
-use Rattle.table.specs.declared.table.Table.{Table}
+use Rattle.table.specs.declared.Peer.{Peer}
+use Rattle.table.specs.declared.Table.{Table}
 use Rattle.lists.specs.Lists.{every}
 use Rattle.table.specs.Table.{entries, tableOf}
 use Rattle.expiry.specs.Expiry.{freshAt, freshPeer}

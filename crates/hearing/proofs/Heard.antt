@@ -10,7 +10,7 @@ use lib.Dec.{ltb}
 use Rattle.members.specs.Mi.{miSame}
 use Rattle.members.specs.declared.mi.Mi.{Mi}
 use Rattle.members.specs.declared.entry.Entry.{Entry}
-use Rattle.places.specs.declared.once.Spot.{Spot}
+use Rattle.places.specs.declared.Spot.{Spot}
 use Rattle.walk.specs.List.{entriesFrom, listAt, entriesIn, seek}
 use Rattle.walk.specs.declared.list.Found.the-variants.{At, Nothing}
 use Rattle.walk.proofs.Lists.{length-entries}

@@ -5,15 +5,15 @@ use mathlib.Core.List.{List}
 use lib.Dec.{ltb, eqb}
 use Rattle.members.specs.Mi.{miSame}
 use Rattle.members.specs.declared.mi.Mi.{Mi}
-use Rattle.election.specs.declared.elect.Server.{Server}
-use Rattle.election.specs.declared.elect.Server.the-variants.{Nobody, Ourselves, Elected}
+use Rattle.election.specs.declared.Server.{Server}
+use Rattle.election.specs.declared.Server.the-variants.{Nobody, Ourselves, Elected}
 use Rattle.sets.specs.Kinds.{sakIn}
 use Rattle.sets.specs.declared.kinds.SakHeader.{SakHeader}
-use Rattle.places.specs.declared.once.Spot.{Spot}
+use Rattle.places.specs.declared.Spot.{Spot}
 use Rattle.questions.specs.Ask.{serverOf}
 use Rattle.participant.specs.Keys.{ofMember, isKey, withKey, withoutKeys}
-use Rattle.participant.specs.declared.record.Key.{Key}
-use Rattle.participant.specs.declared.record.Participant.{Participant}
+use Rattle.participant.specs.declared.Key.{Key}
+use Rattle.participant.specs.declared.Participant.{Participant}
 use Rattle.hearing.specs.declared.keys.Keyed.{Keyed}
 
 abbrev pub isPeer : Server → Mi → Bool

@@ -6,8 +6,8 @@ use lib.Dec.{ltb, leb, eqb}
 use Rattle.members.specs.Mi.{miSame}
 use Rattle.members.specs.declared.mi.Mi.{Mi}
 use Rattle.members.specs.declared.entry.Entry.{Entry}
-use Rattle.places.specs.declared.once.Spot.{Spot}
-use Rattle.places.specs.declared.once.Places.{Places}
+use Rattle.places.specs.declared.Spot.{Spot}
+use Rattle.places.specs.declared.Places.{Places}
 use Rattle.walk.specs.List.{entriesIn}
 
 -- "Recent (here): not 0, not above the last sent, and one of the last four sent."

@@ -1,12 +1,11 @@
 // A Distributed SAK, used only if its sender is elected after the frame's update.
-use election::elect::Server;
+use election::Server;
 use members::mi;
 use members::mi::Mi;
+use participant::Key;
+use participant::Participant;
 use participant::keys;
-use participant::record::Key;
-use participant::record::Participant;
-use places::once::Spot;
-use questions::ask;
+use places::Spot;
 use sets::kinds;
 use sets::kinds::SakHeader;
 ghost use mathlib.Core.Path.{_≡_};
@@ -22,7 +21,7 @@ pub struct Keyed {
 fn is_server(p: Participant, m: Mi) -> bool
     ensures { λ r. ⌜ r ≡ isServer p m ⌝ }
 {
-    match ask::server(p) {
+    match questions::server(p) {
         Server::Nobody => false,
         Server::Ourselves => false,
         Server::Elected(x) => mi::same_mi(x, m),

@@ -1,7 +1,7 @@
 // Whether a frame proves that its sender hears us.
 use members::mi::Mi;
-use places::once::Places;
-use places::once::Spot;
+use places::Places;
+use places::Spot;
 use walk::list;
 use walk::list::Found;
 ghost use mathlib.Core.Path.{_≡_};

@@ -9,7 +9,7 @@ use lib.Dec.{eqb}
 use borrow.Author.Tests.{ltb-false}
 use Rattle.members.specs.declared.mi.Mi.{Mi}
 use Rattle.sets.specs.Kinds.{sakIn}
-use Rattle.places.specs.declared.once.Spot.{Spot}
+use Rattle.places.specs.declared.Spot.{Spot}
 use Rattle.expiry.specs.Expiry.{expired}
 use Rattle.enter.specs.Enter.{entered}
 use Rattle.lists.specs.Laws.{by-cases}
@@ -18,7 +18,7 @@ use Rattle.participant.specs.Record.{setLatest, setOld}
 use Rattle.changes.specs.Renew.{renewed}
 use Rattle.distribute.specs.Distribute.{withFresh}
 use Rattle.participant.specs.Keys.{withKey, withoutKeys}
-use Rattle.participant.specs.declared.record.Participant.{Participant}
+use Rattle.participant.specs.declared.Participant.{Participant}
 use Rattle.participant.proofs.Settle.{NoneHolds}
 use Rattle.judge.specs.Judge.{basicIn, walkIn, placesIn, frameFacts}
 use Rattle.hearing.specs.Keys.{isServer, isKnown, keyFrom, keyedOf}

@@ -11,17 +11,17 @@ use Rattle.creation.specs.Create.{createdOf}
 use Rattle.distribute.specs.Distribute.{distributedOf}
 use Rattle.changes.specs.Renew.{newMiOf}
 use Rattle.changes.specs.Report.{reported}
-use Rattle.participant.specs.declared.record.Participant.{Participant}
+use Rattle.participant.specs.declared.Participant.{Participant}
 use Rattle.participant.specs.declared.call.Called.{Called}
 use Rattle.participant.specs.declared.call.Answer as call
 use Rattle.participant.specs.declared.call.Answer.the-variants as onCall
 use Rattle.judge.specs.Judge.{basicIn}
 use Rattle.receive.specs.Receive.{receivedOf}
-use Rattle.receive.specs.declared.receive.Answer as receive
-use Rattle.receive.specs.declared.receive.Answer.the-variants as onReceive
+use Rattle.receive.specs.declared.Answer as receive
+use Rattle.receive.specs.declared.Answer.the-variants as onReceive
 use Rattle.send.specs.Send.{sentOf, leftBy}
-use Rattle.send.specs.declared.send.Answer as send
-use Rattle.send.specs.declared.send.Answer.the-variants as onSend
+use Rattle.send.specs.declared.Answer as send
+use Rattle.send.specs.declared.Answer.the-variants as onSend
 use Rattle.octets.specs.Run.{written}
 use Rattle.writer.specs.Frame.{wroteOf}
 use Rattle.writer.specs.declared.mkpdu.Wrote.{Wrote}

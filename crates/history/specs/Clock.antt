@@ -8,7 +8,7 @@ use mathlib.Core.Logic.{_⊎_, inl, inr}
 use native.Mathlib.Omega.{arith}
 use Rattle.lists.specs.Laws.{by-cases}
 use Rattle.creation.specs.Create.{fresh}
-use Rattle.participant.specs.declared.record.Participant.{Participant}
+use Rattle.participant.specs.declared.Participant.{Participant}
 use Rattle.participant.specs.declared.call.Answer.the-variants.{Done}
 use Rattle.history.specs.Calls.{Creation, created, Call, answered, from, after, accepts, accepted, timeOf, Made}
 use Rattle.history.specs.Steps.{accepted-becomes, accepted-none, refused-leaves}

@@ -8,12 +8,12 @@ use lib.Dec.{eqb}
 use borrow.Author.Tests.{not-false, eqb-false}
 use Rattle.members.specs.declared.mi.Mi.{Mi}
 use Rattle.sets.specs.Kinds.{sakIn}
-use Rattle.places.specs.declared.once.Spot.{Spot}
+use Rattle.places.specs.declared.Spot.{Spot}
 use Rattle.sets.specs.declared.kinds.SakHeader.{SakHeader}
 use Rattle.expiry.specs.Kept.{Kept}
 use Rattle.lookup.specs.Look.{heldIn, liveFor}
-use Rattle.election.specs.declared.elect.Server.{Server}
-use Rattle.election.specs.declared.elect.Server.the-variants.{Nobody, Ourselves, Elected}
+use Rattle.election.specs.declared.Server.{Server}
+use Rattle.election.specs.declared.Server.the-variants.{Nobody, Ourselves, Elected}
 use Rattle.lists.specs.Laws.{by-cases, clash, first-of}
 use Rattle.kept.specs.Same.{same-eq}
 use Rattle.election.proofs.Least.{elected-live}
@@ -25,9 +25,9 @@ use Rattle.changes.specs.Renew.{renewed}
 use Rattle.changes.specs.Report.{installed}
 use Rattle.distribute.specs.Distribute.{nextAn, confidentialityOf, freshKey, withFresh}
 use Rattle.participant.specs.Keys.{noSlot, withKey, withoutKeys}
-use Rattle.participant.specs.declared.record.Key.{Key}
-use Rattle.participant.specs.declared.record.Slot.{Slot}
-use Rattle.participant.specs.declared.record.Participant.{Participant}
+use Rattle.participant.specs.declared.Key.{Key}
+use Rattle.participant.specs.declared.Slot.{Slot}
+use Rattle.participant.specs.declared.Participant.{Participant}
 use Rattle.participant.specs.declared.call.Answer.the-variants.{Done}
 use Rattle.judge.specs.Judge.{basicIn, walkIn, placesIn}
 use Rattle.hearing.specs.Keys.{isPeer, isServer, keyFrom}

@@ -17,7 +17,7 @@ use Rattle.kept.specs.Proved.{agedProof, isSome}
 use Rattle.lookup.specs.Look.{heldIn, liveFor}
 use Rattle.lists.specs.Laws.{by-cases, never, clash, both, first-of, second-of}
 use Rattle.kept.specs.Same.{same-eq, same-refl}
-use Rattle.participant.specs.declared.record.Participant.{Participant}
+use Rattle.participant.specs.declared.Participant.{Participant}
 use Rattle.participant.specs.declared.call.Answer.the-variants.{Done}
 use Rattle.judge.specs.Judge.{basicIn, walkIn, placesIn}
 use Rattle.hearing.specs.Proof.{isRecent, anyRecent, namedIn, provesIn}

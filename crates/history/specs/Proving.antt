@@ -20,7 +20,7 @@ use Rattle.participant.specs.Call.{agedTo}
 use Rattle.changes.specs.Renew.{renewed}
 use Rattle.distribute.specs.Distribute.{withFresh}
 use Rattle.participant.specs.Keys.{withKey}
-use Rattle.participant.specs.declared.record.Participant.{Participant}
+use Rattle.participant.specs.declared.Participant.{Participant}
 use Rattle.participant.proofs.Settle.{NoneHolds}
 use Rattle.calls.specs.Fields.{create-empty}
 use Rattle.judge.specs.Judge.{basicIn, frameFacts}

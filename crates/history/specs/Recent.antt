@@ -20,7 +20,7 @@ use Rattle.writer.specs.Frame.{headerOctets, senderFlags, fixedOctets, cknOf, b
 use Rattle.writer.specs.declared.mkpdu.Mkpdu.{Mkpdu}
 use Rattle.writer.proofs.Laws.{length-header}
 use Rattle.participant.specs.Call.{agedTo}
-use Rattle.participant.specs.declared.record.Participant.{Participant}
+use Rattle.participant.specs.declared.Participant.{Participant}
 use Rattle.participant.proofs.Settle.{NoneHolds}
 use Rattle.calls.specs.Fields.{create-empty}
 use Rattle.judge.specs.Judge.{basicIn}

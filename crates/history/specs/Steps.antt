@@ -12,7 +12,7 @@ use Rattle.participant.specs.Record.{first24, setLatest}
 use Rattle.changes.specs.Renew.{renewed, newMiOf}
 use Rattle.changes.specs.Report.{installed, reported}
 use Rattle.distribute.specs.Distribute.{withFresh, distributedOf}
-use Rattle.participant.specs.declared.record.Participant.{Participant}
+use Rattle.participant.specs.declared.Participant.{Participant}
 use Rattle.participant.specs.declared.call.Called.{Called}
 use Rattle.participant.specs.declared.call.Answer.the-variants.{Done, Refused}
 use Rattle.participant.proofs.Settle.{NoneHolds, numbered, none-holds}
@@ -20,12 +20,12 @@ use Rattle.calls.specs.Settled.{distributeFacts, newMiFacts, reportFacts}
 use Rattle.judge.specs.Judge.{basicIn, walkIn, placesIn, frameFacts}
 use Rattle.receive.specs.Receive.{tableFacts, receiveFacts, acceptedBy, acceptedOf, receivedOf}
 use Rattle.receive.specs.Receive as receive
-use Rattle.receive.specs.declared.receive.Received.{Received}
+use Rattle.receive.specs.declared.Received.{Received}
 use Rattle.hearing.specs.declared.keys.Keyed.{Keyed}
 use Rattle.send.specs.Send.{frameAt, sendFacts, sentAt, sentOf, leftBy}
 use Rattle.send.specs.Send as send
-use Rattle.send.specs.declared.send.Sent.{Sent}
-use Rattle.send.specs.declared.send.Answer.the-variants.{Octets}
+use Rattle.send.specs.declared.Sent.{Sent}
+use Rattle.send.specs.declared.Answer.the-variants.{Octets}
 use Rattle.writer.specs.declared.mkpdu.Wrote.the-variants as onWrite
 use Rattle.octets.specs.Run.{written}
 use Rattle.image.specs.Image.{imageOf}

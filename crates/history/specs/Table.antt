@@ -8,8 +8,8 @@ use borrow.Author.Tests.{ltb-false}
 use Rattle.expiry.specs.Kept.{Kept, absent, distinct}
 use Rattle.table.specs.Table.{entries}
 use Rattle.expiry.specs.Expiry.{expired}
-use Rattle.table.specs.declared.table.Peer.{Peer}
-use Rattle.table.specs.declared.table.Table.{Table}
+use Rattle.table.specs.declared.Peer.{Peer}
+use Rattle.table.specs.declared.Table.{Table}
 use Rattle.lists.specs.Laws.{first-of, second-of}
 use Rattle.expiry.proofs.Aging.{at-most-16, count-tidy}
 use Rattle.kept.specs.Apart.{absent-clash}
@@ -18,7 +18,7 @@ use Rattle.participant.specs.Call.{agedTo}
 use Rattle.changes.specs.Renew.{renewed}
 use Rattle.distribute.specs.Distribute.{withFresh}
 use Rattle.participant.specs.Keys.{withKey}
-use Rattle.participant.specs.declared.record.Participant.{Participant}
+use Rattle.participant.specs.declared.Participant.{Participant}
 use Rattle.participant.specs.declared.call.Answer.the-variants.{Done}
 use Rattle.participant.proofs.Settle.{NoneHolds}
 use Rattle.calls.specs.Fields.{create-empty}

@@ -8,10 +8,10 @@ use lib.Seq.{sets}
 use Rattle.octets.proofs.Stores.{sets-on, length-runs}
 use Rattle.packed.specs.Bit.{bit}
 use Rattle.table.specs.Table.{entries}
-use Rattle.table.specs.declared.table.Table.{Table}
+use Rattle.table.specs.declared.Table.{Table}
 use Rattle.lists.specs.Laws.{by-cases}
-use Rattle.participant.specs.declared.record.Slot.{Slot}
-use Rattle.participant.specs.declared.record.Participant.{Participant}
+use Rattle.participant.specs.declared.Slot.{Slot}
+use Rattle.participant.specs.declared.Participant.{Participant}
 use Rattle.layout.specs.Layout.{headOf, entryOf, entriesFrom, bodies, laidOf}
 use Rattle.layout.proofs.Laws.{length-head, length-entry}
 use Rattle.own.specs.Own.{ownOctets}

@@ -4,7 +4,7 @@ use mathlib.Core.List.{List, [], _∷_, _++_}
 use lib.ListN.{length}
 use Rattle.packed.specs.Bit.{bit}
 use Rattle.table.specs.Table.{entries}
-use Rattle.participant.specs.declared.record.Participant.{Participant}
+use Rattle.participant.specs.declared.Participant.{Participant}
 use Rattle.layout.specs.Layout.{Part, headOf, entryOf, laidOf}
 use Rattle.own.specs.Own.{ownOctets}
 use Rattle.peer.specs.Peer.{peersOctets}

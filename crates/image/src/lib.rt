@@ -1,2 +1,53 @@
 // The saved port image of a participant, written.
-pub mod write;
+use packed::bit;
+use participant::Participant;
+use participant::Slot;
+use table::ROOM;
+use writer::mkpdu::Wrote;
+ghost use mathlib.Core.Path.{_≡_};
+ghost use Prim.Native.Nat.{_+_, _*_, _≤_, min};
+ghost use lib.ListN.{length};
+ghost use lib.Seq.{sets};
+ghost use Rattle.packed.specs.Bit.{bit as bitOf};
+ghost use Rattle.octets.specs.Run.{written};
+ghost use Rattle.writer.specs.Frame.{wroteOf};
+ghost use Rattle.image.specs.Image.{contentsFor, imageOf};
+
+// The contents table for n peers and k keys.
+fn put_contents(out: &mut [u8], n: usize, k: u8)
+    requires { ⌜ n ≤ 16 ⌝ }
+    ensures { λ _. ⌜ now (out .exit) ≡ sets (now (out .entry)) 0 (contentsFor n k) ⌝ }
+{
+    layout::put_head(out, 3);
+    layout::put_entry(out, 0, 1, 28);
+    layout::put_entry(out, 1, n as u16, 144);
+    layout::put_entry(out, 2, k as u16, 144 + n as u32 * 44);
+}
+
+// 28 for a key that is held.
+fn key_size(s: Slot) -> u32
+    ensures { λ r. ⌜ (r ≡ bitOf (s .held) * 28) × (r ≤ 28) ⌝ }
+{
+    if s.held { 28 } else { 0 }
+}
+
+pub fn write(out: &mut [u8], p: Participant) -> Wrote
+    ensures { λ r. ⌜ (r ≡ wroteOf (length (imageOf p)) (length (now (out .entry)))) × (now (out .exit) ≡ written (now (out .entry)) (imageOf p)) ⌝ }
+{
+    let t = p.table;
+    let latest = p.latest;
+    let old = p.old;
+    let n = facts::at_most(t.count, ROOM);
+    let keys = 144 + n as u32 * 44;
+    let next = keys + key_size(latest);
+    let total = (next + key_size(old)) as usize;
+    if out.len() < total {
+        return Wrote::Refused(13);
+    }
+    put_contents(out, n, bit::bit_of(latest.held) + bit::bit_of(old.held));
+    own::put_own(out, 28, p);
+    peer::put_peers(out, 144, t);
+    key::put_slot(out, keys, latest);
+    key::put_slot(out, next, old);
+    Wrote::Octets(total)
+}

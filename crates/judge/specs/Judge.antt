@@ -11,14 +11,14 @@ use Rattle.frame.specs.declared.basic.Basic.{Basic}
 use Rattle.frame.specs.declared.basic.BasicRead.{BasicRead}
 use Rattle.frame.specs.declared.basic.BasicRead.the-variants as read
 use Rattle.places.specs.Once.{noPlaces}
-use Rattle.places.specs.declared.once.Places.{Places}
+use Rattle.places.specs.declared.Places.{Places}
 use Rattle.walk.specs.Walk.{walkOf}
 use Rattle.walk.specs.declared.Walked.{Walked}
 use Rattle.walk.specs.declared.Walked.the-variants as walked
 use Rattle.participant.specs.Call.{fact1}
-use Rattle.participant.specs.declared.record.Participant.{Participant}
-use Rattle.judge.specs.declared.judge.Judged.{Judged}
-use Rattle.judge.specs.declared.judge.Judged.the-variants.{Good, Refused}
+use Rattle.participant.specs.declared.Participant.{Participant}
+use Rattle.judge.specs.declared.Judged.{Judged}
+use Rattle.judge.specs.declared.Judged.the-variants.{Good, Refused}
 
 abbrev pub numberOf : BasicRead → ℕ
 numberOf (read.Refused n) = n

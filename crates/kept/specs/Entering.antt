@@ -10,11 +10,11 @@ use lib.Dec.{leb}
 use borrow.Author.Tests.{lt-ltb, le-ltb, leb-true, leb-false}
 use Rattle.members.specs.declared.mi.Mi.{Mi}
 use Rattle.members.specs.Mi.{miSame}
-use Rattle.table.specs.declared.table.Peer.{Peer}
-use Rattle.table.specs.declared.table.Table.{Table}
-use Rattle.lookup.specs.declared.look.Held.{Held}
-use Rattle.lookup.specs.declared.look.Held.the-variants.{At, Missing}
-use Rattle.enter.specs.declared.enter.Heard.{Heard}
+use Rattle.table.specs.declared.Peer.{Peer}
+use Rattle.table.specs.declared.Table.{Table}
+use Rattle.lookup.specs.declared.Held.{Held}
+use Rattle.lookup.specs.declared.Held.the-variants.{At, Missing}
+use Rattle.enter.specs.declared.Heard.{Heard}
 use Rattle.table.specs.Table.{blankPeer, entries, tableOf, pushed}
 use Rattle.lookup.specs.Look.{seek, heldIn, noRoomFor}
 use Rattle.enter.specs.Enter.{heldPeer, replaced, updated, enteredAt, entered, enterList}

@@ -9,11 +9,11 @@ use lib.Dec.{leb, eqb}
 use borrow.Author.Tests.{lt-ltb, le-ltb, le-leb, lt-leb, leb-true, leb-false, ne-eqb, eqb-false}
 use Rattle.members.specs.declared.mi.Mi.{Mi}
 use Rattle.members.specs.Mi.{miSame}
-use Rattle.table.specs.declared.table.Peer.{Peer}
-use Rattle.table.specs.declared.table.Table.{Table}
-use Rattle.lookup.specs.declared.look.Held.{Held}
-use Rattle.lookup.specs.declared.look.Held.the-variants.{At, Missing}
-use Rattle.enter.specs.declared.enter.Heard.{Heard}
+use Rattle.table.specs.declared.Peer.{Peer}
+use Rattle.table.specs.declared.Table.{Table}
+use Rattle.lookup.specs.declared.Held.{Held}
+use Rattle.lookup.specs.declared.Held.the-variants.{At, Missing}
+use Rattle.enter.specs.declared.Heard.{Heard}
 use Rattle.table.specs.Table.{room, blankPeer, pushed}
 use Rattle.expiry.specs.Expiry.{freshAt, stillPeer, steadyIn, oldestAt, stillFrom}
 use Rattle.lookup.specs.Look.{seek, firstAt, foundAt, noRoomFor}

@@ -8,10 +8,10 @@ use lib.Dec.{leb, eqb}
 use borrow.Author.Tests.{leb-true, le-leb}
 use Rattle.members.specs.declared.mi.Mi.{Mi}
 use Rattle.members.specs.Mi.{miSame}
-use Rattle.table.specs.declared.table.Peer.{Peer}
-use Rattle.table.specs.declared.table.Table.{Table}
-use Rattle.lookup.specs.declared.look.Held.{Held}
-use Rattle.enter.specs.declared.enter.Heard.{Heard}
+use Rattle.table.specs.declared.Peer.{Peer}
+use Rattle.table.specs.declared.Table.{Table}
+use Rattle.lookup.specs.declared.Held.{Held}
+use Rattle.enter.specs.declared.Heard.{Heard}
 use Rattle.lists.specs.Lists.{every}
 use Rattle.table.specs.Table.{blankPeer, entries, emptyTable}
 use Rattle.expiry.specs.Expiry.{freshAt, freshPeer, lapsed, unproven, agedPeer, agedList, steadyIn, expired}

@@ -2,8 +2,8 @@
 use Prim.Native.Nat.{ℕ}
 use mathlib.Core.Bool.{Bool, true, false, cond}
 use mathlib.Core.Option.{Option, none, some}
-use Rattle.lookup.specs.declared.look.Held.{Held}
-use Rattle.lookup.specs.declared.look.Held.the-variants.{At, Missing}
+use Rattle.lookup.specs.declared.Held.{Held}
+use Rattle.lookup.specs.declared.Held.the-variants.{At, Missing}
 use Rattle.expiry.specs.Expiry.{freshAt}
 
 -- When the identifier that was looked up was last proved.

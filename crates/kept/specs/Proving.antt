@@ -8,11 +8,11 @@ use lib.ListN.{length}
 use borrow.Author.Tests.{leb-true}
 use Rattle.members.specs.declared.mi.Mi.{Mi}
 use Rattle.members.specs.Mi.{miSame}
-use Rattle.table.specs.declared.table.Peer.{Peer}
-use Rattle.table.specs.declared.table.Table.{Table}
-use Rattle.lookup.specs.declared.look.Held.{Held}
-use Rattle.lookup.specs.declared.look.Held.the-variants.{At, Missing}
-use Rattle.enter.specs.declared.enter.Heard.{Heard}
+use Rattle.table.specs.declared.Peer.{Peer}
+use Rattle.table.specs.declared.Table.{Table}
+use Rattle.lookup.specs.declared.Held.{Held}
+use Rattle.lookup.specs.declared.Held.the-variants.{At, Missing}
+use Rattle.enter.specs.declared.Heard.{Heard}
 use Rattle.lists.specs.Lists.{every}
 use Rattle.table.specs.Table.{entries}
 use Rattle.expiry.specs.Expiry.{freshAt, freshPeer, agedPeer, agedList, expired}

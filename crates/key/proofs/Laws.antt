@@ -7,7 +7,7 @@ use lib.ListN.{length, length-append}
 use Rattle.octets.proofs.Laws.{length-beOf}
 use Rattle.members.proofs.Laws.{length-mi}
 use Rattle.packed.proofs.Laws.{or-low}
-use Rattle.participant.specs.declared.record.Key.{Key}
+use Rattle.participant.specs.declared.Key.{Key}
 use Rattle.key.specs.Key.{keyOctets}
 
 pub length-key : (k : Key) → length (keyOctets k) ≡ 28

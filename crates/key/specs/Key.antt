@@ -7,8 +7,8 @@ use lib.Dec.{eqb, ltb}
 use Rattle.octets.specs.Number.{beAt, beOf}
 use Rattle.members.specs.Mi.{miAt, miOctets}
 use Rattle.packed.specs.Bit.{bit}
-use Rattle.participant.specs.declared.record.Key.{Key}
-use Rattle.participant.specs.declared.record.Slot.{Slot}
+use Rattle.participant.specs.declared.Key.{Key}
+use Rattle.participant.specs.declared.Slot.{Slot}
 use Rattle.participant.specs.Keys.{noSlot, slotOf}
 
 -- "flags (1 receive, 2 transmit)"

@@ -4,7 +4,7 @@ use mathlib.Core.Path.{_≡_}
 use lib.ListN.{length, length-append}
 use Rattle.octets.proofs.Laws.{length-beOf}
 use Rattle.members.proofs.Laws.{length-mi}
-use Rattle.participant.specs.declared.record.Participant.{Participant}
+use Rattle.participant.specs.declared.Participant.{Participant}
 use Rattle.own.specs.Own.{namedOctets, timesOctets, keptOctets, ownOctets}
 
 pub length-named : (p : Participant) → length (namedOctets p) ≡ 28

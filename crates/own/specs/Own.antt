@@ -9,7 +9,7 @@ use Rattle.octets.specs.Run.{partOf}
 use Rattle.members.specs.Mi.{miAt, miOctets}
 use Rattle.packed.specs.Bit.{bit}
 use Rattle.table.specs.Table.{emptyTable}
-use Rattle.participant.specs.declared.record.Participant.{Participant}
+use Rattle.participant.specs.declared.Participant.{Participant}
 use Rattle.participant.specs.Record.{first32, first24}
 use Rattle.participant.specs.Keys.{noSlot}
 

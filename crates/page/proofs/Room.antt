@@ -13,7 +13,7 @@ use lib.ListN.{length, length-append, replicate, set}
 use Rattle.counts.specs.Counts.{liveCount, potentialCount}
 use Rattle.expiry.proofs.Aging.{at-most-16}
 use Rattle.counts.proofs.Listing.{live-potential}
-use Rattle.participant.specs.declared.record.Participant.{Participant}
+use Rattle.participant.specs.declared.Participant.{Participant}
 use Rattle.questions.specs.Ask.{serverOf}
 use Rattle.page.specs.Status.{keyText, statusText}
 use Rattle.page.proofs.Laws.{decimal-below}

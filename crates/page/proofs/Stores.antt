@@ -6,11 +6,11 @@ use native.Mathlib.Omega.{arith}
 use lib.ListN.{length, length-append}
 use lib.Seq.{sets}
 use Rattle.octets.proofs.Stores.{sets-on}
-use Rattle.election.specs.declared.elect.Server.{Server}
-use Rattle.election.specs.declared.elect.Server.the-variants.{Nobody, Ourselves, Elected}
+use Rattle.election.specs.declared.Server.{Server}
+use Rattle.election.specs.declared.Server.the-variants.{Nobody, Ourselves, Elected}
 use Rattle.counts.specs.Counts.{liveCount, potentialCount}
 use Rattle.questions.specs.Ask.{serverOf}
-use Rattle.participant.specs.declared.record.Participant.{Participant}
+use Rattle.participant.specs.declared.Participant.{Participant}
 use Rattle.page.specs.Text.{ascii, decimalOf}
 use Rattle.page.specs.Status.{serverText, keyText, statusText}
 use Rattle.page.proofs.Laws.{decimal-le, length-hex}

@@ -3,11 +3,11 @@
 use Prim.Native.Nat.{ℕ}
 use mathlib.Core.Bool.{Bool, cond}
 use mathlib.Core.List.{List, _++_}
-use Rattle.election.specs.declared.elect.Server.{Server}
-use Rattle.election.specs.declared.elect.Server.the-variants.{Nobody, Ourselves, Elected}
+use Rattle.election.specs.declared.Server.{Server}
+use Rattle.election.specs.declared.Server.the-variants.{Nobody, Ourselves, Elected}
 use Rattle.counts.specs.Counts.{liveCount, potentialCount}
 use Rattle.questions.specs.Ask.{serverOf}
-use Rattle.participant.specs.declared.record.Participant.{Participant}
+use Rattle.participant.specs.declared.Participant.{Participant}
 use Rattle.page.specs.Text.{ascii, decimalOf, hexOf}
 
 unfoldable pub serverText : Server → List ℕ

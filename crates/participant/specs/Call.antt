@@ -5,7 +5,7 @@ use mathlib.Core.List.{List, [], _∷_}
 use lib.Dec.{ltb, eqb}
 use Rattle.facts.specs.Facts.{firstOf}
 use Rattle.expiry.specs.Expiry.{expired}
-use Rattle.participant.specs.declared.record.Participant.{Participant}
+use Rattle.participant.specs.declared.Participant.{Participant}
 use Rattle.participant.specs.declared.call.Answer.the-variants.{Done, Refused}
 use Rattle.participant.specs.declared.call.Called.{Called}
 use Rattle.participant.specs.Record.{setClock, setTable}

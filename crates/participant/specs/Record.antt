@@ -5,9 +5,9 @@ use Prim.Native.Nat.{ℕ}
 use lib.ListN.{replicate}
 use lib.Seq.{sets}
 use Rattle.members.specs.declared.mi.Mi.{Mi}
-use Rattle.table.specs.declared.table.Table.{Table}
-use Rattle.participant.specs.declared.record.Slot.{Slot}
-use Rattle.participant.specs.declared.record.Participant.{Participant}
+use Rattle.table.specs.declared.Table.{Table}
+use Rattle.participant.specs.declared.Slot.{Slot}
+use Rattle.participant.specs.declared.Participant.{Participant}
 
 -- The octets of a CKN in its array of 32, of a wrapped key in its array of 24: zeros past their end.
 abbrev pub first32 : List ℕ → List ℕ

@@ -1,5 +1,5 @@
 // What a call answers, beside what the participant becomes.
-use crate::record::Participant;
+use crate::Participant;
 ghost use mathlib.Core.Path.{_≡_};
 ghost use Rattle.participant.specs.Call.{doneOf, refusedOf, agedTo};
 
@@ -38,7 +38,7 @@ pub fn aged_to(p: Participant, time: u64) -> Participant
     ensures { λ r. ⌜ r ≡ agedTo p time ⌝ }
 {
     let before = p.table;
-    let table = expiry::expiry::expire(before, time);
+    let table = expiry::expire(before, time);
     let mut q = p;
     q.table = table;
     q.clock = time;

@@ -1,7 +1,7 @@
 // The two keys on record.
-use crate::record::Key;
-use crate::record::Participant;
-use crate::record::Slot;
+use crate::Key;
+use crate::Participant;
+use crate::Slot;
 use members::mi;
 use members::mi::Mi;
 ghost use mathlib.Core.Path.{_≡_};

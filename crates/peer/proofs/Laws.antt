@@ -12,7 +12,7 @@ use Rattle.members.proofs.Laws.{length-mi}
 use Rattle.packed.proofs.Laws.{or-low}
 use Rattle.lists.specs.Lists.{pad}
 use Rattle.table.specs.Table.{blankPeer}
-use Rattle.table.specs.declared.table.Peer.{Peer}
+use Rattle.table.specs.declared.Peer.{Peer}
 use Rattle.lists.specs.Laws.{pad-snoc}
 use Rattle.peer.specs.Peer.{peerOctets, peerAt, peerClean, peersAt, peersClean}
 

@@ -8,7 +8,7 @@ use Rattle.octets.specs.Number.{beAt, beOf}
 use Rattle.octets.specs.Run.{runsOf}
 use Rattle.members.specs.Mi.{miAt, miOctets}
 use Rattle.packed.specs.Bit.{bit}
-use Rattle.table.specs.declared.table.Peer.{Peer}
+use Rattle.table.specs.declared.Peer.{Peer}
 
 -- "flags (1 proof, 2 Key Server, 4 desired, 16 and 32 capability)"
 abbrev pub peerFlags : Peer → ℕ

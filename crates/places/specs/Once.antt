@@ -2,8 +2,8 @@
 use Prim.Native.Nat.{ℕ}
 use mathlib.Core.Bool.{Bool, true, false, cond}
 use lib.Dec.{eqb}
-use Rattle.places.specs.declared.once.Spot.{Spot}
-use Rattle.places.specs.declared.once.Places.{Places}
+use Rattle.places.specs.declared.Spot.{Spot}
+use Rattle.places.specs.declared.Places.{Places}
 
 abbrev pub absentSpot : Spot
 absentSpot = record { present = false; place = 0; len = 0 }

@@ -8,17 +8,14 @@ use crate::status;
 use changes::renew;
 use changes::report;
 use changes::tick;
-use creation::create;
-use image::write;
 use members::mi;
 use octets::number;
 use octets::run;
+use participant::Participant;
 use participant::call::Answer;
 use participant::call::Called;
-use participant::record::Participant;
-use receive::receive::Answer as Heard;
-use send::send::Answer as Sent;
-use shown::show;
+use receive::Answer as Heard;
+use send::Answer as Sent;
 use writer::mkpdu::Wrote;
 ghost use Prim.Native.Nat.{_≤_};
 
@@ -93,7 +90,7 @@ fn called(r: Called, out: &mut [u8], word: &[u8]) -> Played {
 fn make(s: State, d: &[u8], out: &mut [u8]) -> Played {
     let m = mi::mi_at(d, 8);
     let desired = number::octet(d, 30) != 0;
-    let r = create::create(
+    let r = creation::create(
         number::u64_at(d, 0),
         m,
         number::u64_at(d, 20),
@@ -118,7 +115,7 @@ fn heard(a: Heard, out: &mut [u8]) -> usize {
 }
 
 fn hear(p: Participant, d: &[u8], out: &mut [u8]) -> Played {
-    let r = receive::receive::receive(
+    let r = receive::receive(
         p,
         number::u64_at(d, 0),
         number::octet(d, 8) != 0,
@@ -140,7 +137,7 @@ fn sent(a: Sent, frame: &[u8], out: &mut [u8]) -> usize {
 fn say(p: Participant, d: &[u8], out: &mut [u8]) -> Played {
     let mut frame = [0u8; 2048];
     let room = room_at(d, 8);
-    let r = send::send::send(
+    let r = send::send(
         p,
         number::u64_at(d, 0),
         number::u32_at(d, 10),
@@ -167,7 +164,7 @@ fn handed(r: Called, out: &mut [u8]) -> usize {
 }
 
 fn hand_out(p: Participant, d: &[u8], out: &mut [u8]) -> Played {
-    let r = distribute::distribute::distribute(p, number::u64_at(d, 0), rest(d, 8));
+    let r = distribute::distribute(p, number::u64_at(d, 0), rest(d, 8));
     let n = handed(r, out);
     let q = r.participant;
     state::with(q, n)
@@ -195,7 +192,7 @@ fn saved(w: Wrote, image: &[u8], out: &mut [u8]) -> usize {
 fn save(p: Participant, d: &[u8], out: &mut [u8]) -> Played {
     let mut image = [0u8; 2048];
     let room = room_at(d, 0);
-    let w = write::write(&mut image[..room], p);
+    let w = image::write(&mut image[..room], p);
     let n = saved(w, &image, out);
     state::with(p, n)
 }
@@ -226,7 +223,7 @@ pub(crate) fn play(s: State, op: u8, d: &[u8], out: &mut [u8]) -> Played {
         return make(s, d, out);
     }
     if op == 10 {
-        let n = print::line(out, 0, show::show(d));
+        let n = print::line(out, 0, shown::show(d));
         return state::same(s, n);
     }
     if op == 11 {

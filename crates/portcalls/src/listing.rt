@@ -3,7 +3,6 @@ use crate::print;
 use frame::basic;
 use frame::basic::BasicRead;
 use members::entry;
-use places::once;
 use sets::kinds;
 use sets::kinds::KeyUse;
 use sets::kinds::Kind;
@@ -103,7 +102,7 @@ pub(crate) fn line(out: &mut [u8], frame: &[u8]) -> usize {
     };
     let stop = b.stop;
     let mut at = b.next;
-    let mut seen = once::none();
+    let mut seen = places::none();
     let mut n = print::words(out, 0, b"sets");
     while at < stop {
         let SetRead::Good(s) = set::set_at(frame, at, stop, seen) else {
@@ -114,7 +113,7 @@ pub(crate) fn line(out: &mut [u8], frame: &[u8]) -> usize {
         let k = s.kind;
         let t = kinds::type_of(k);
         n = word(out, n, frame, s);
-        seen = once::with(seen, t, at, s.len);
+        seen = places::with(seen, t, at, s.len);
         at += set::extent(t, s.len);
     }
     print::words(out, n, b" end\n")

@@ -1,9 +1,8 @@
 // The participant that a script works on, if a create has succeeded, and what a record's playing gives.
 use crate::print;
-use creation::create;
 use members::mi::Mi;
+use participant::Participant;
 use participant::call::Called;
-use participant::record::Participant;
 
 pub(crate) struct State {
     pub(crate) held: bool,
@@ -18,7 +17,7 @@ pub(crate) struct Played {
 }
 
 pub(crate) fn none() -> State {
-    let r = create::create(0, Mi { hi: 0, lo: 0 }, 0, 0, 0, false, &[]);
+    let r = creation::create(0, Mi { hi: 0, lo: 0 }, 0, 0, 0, false, &[]);
     let p = r.participant;
     State {
         held: false,

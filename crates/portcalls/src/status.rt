@@ -1,8 +1,7 @@
 // The answer to "ask": the line of the port page, then what is due.
 use crate::print;
 use page::status;
-use participant::record::Participant;
-use questions::ask;
+use participant::Participant;
 
 fn due(out: &mut [u8], at: usize, x: bool) -> usize {
     if x {
@@ -14,8 +13,8 @@ fn due(out: &mut [u8], at: usize, x: bool) -> usize {
 pub(crate) fn line(out: &mut [u8], p: Participant) -> usize {
     let n = print::line(out, 0, status::status(p));
     let n = print::words(out, n, b" hello ");
-    let n = due(out, n, ask::hello_due(p));
+    let n = due(out, n, questions::hello_due(p));
     let n = print::words(out, n, b" fresh ");
-    let n = due(out, n, ask::fresh_due(p));
+    let n = due(out, n, questions::fresh_due(p));
     print::put(out, n, b'\n')
 }

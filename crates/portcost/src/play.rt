@@ -1,16 +1,14 @@
 // One call, played again and again on the same participant. What comes back goes into a sum, so that no play is idle.
 use crate::setup;
-use image::write;
 use octets::number;
 use octets::run;
+use participant::Participant;
 use participant::call::Answer;
 use participant::call::Called;
-use participant::record::Participant;
-use reading::read;
-use receive::receive::Answer as Heard;
-use receive::receive::Received;
-use send::send::Answer as Sending;
-use send::send::Sent;
+use receive::Answer as Heard;
+use receive::Received;
+use send::Answer as Sending;
+use send::Sent;
 use std::num;
 use writer::mkpdu::Wrote;
 
@@ -36,7 +34,7 @@ fn hear_often(p: Participant, n: u32, time: u64, frame: &[u8]) -> u64 {
     let mut sum: u64 = 0;
     let mut i: u32 = 0;
     while i < n {
-        let r = receive::receive::receive(p, time, true, frame);
+        let r = receive::receive(p, time, true, frame);
         sum = num::wrapping_add_u64(sum, of_heard(r));
         i += 1;
     }
@@ -48,7 +46,7 @@ fn send_often(p: Participant, n: u32, time: u64) -> u64 {
     let mut sum: u64 = 0;
     let mut i: u32 = 0;
     while i < n {
-        let r = send::send::send(p, time, 1, 1, &mut out);
+        let r = send::send(p, time, 1, 1, &mut out);
         sum = num::wrapping_add_u64(sum, of_sent(r));
         i += 1;
     }
@@ -67,7 +65,7 @@ fn save_often(p: Participant, n: u32) -> u64 {
     let mut sum: u64 = 0;
     let mut i: u32 = 0;
     while i < n {
-        sum = num::wrapping_add_u64(sum, of_wrote(write::write(&mut out, p)));
+        sum = num::wrapping_add_u64(sum, of_wrote(image::write(&mut out, p)));
         i += 1;
     }
     sum
@@ -84,11 +82,11 @@ fn of_read(r: Called) -> u64 {
 
 fn read_often(p: Participant, n: u32) -> u64 {
     let mut out = [0u8; 1024];
-    let len = of_wrote(write::write(&mut out, p)) as usize;
+    let len = of_wrote(image::write(&mut out, p)) as usize;
     let mut sum: u64 = 0;
     let mut i: u32 = 0;
     while i < n {
-        let r = read::read(run::part(&out, 0, len));
+        let r = reading::read(run::part(&out, 0, len));
         sum = num::wrapping_add_u64(sum, of_read(r));
         i += 1;
     }

@@ -1,13 +1,12 @@
 // The calls that make the participant. Each payload is that of a call script's record; a send has room enough.
-use creation::create;
 use members::mi;
 use members::mi::Mi;
 use octets::number;
 use octets::run;
-use participant::record::Participant;
+use participant::Participant;
 
 pub(crate) fn nobody() -> Participant {
-    let r = create::create(0, Mi { hi: 0, lo: 0 }, 0, 0, 0, false, &[]);
+    let r = creation::create(0, Mi { hi: 0, lo: 0 }, 0, 0, 0, false, &[]);
     r.participant
 }
 
@@ -17,7 +16,7 @@ pub(crate) fn rest(d: &[u8], at: usize) -> &[u8] {
 }
 
 fn make(d: &[u8]) -> Participant {
-    let r = create::create(
+    let r = creation::create(
         number::u64_at(d, 0),
         mi::mi_at(d, 8),
         number::u64_at(d, 20),
@@ -34,16 +33,16 @@ pub(crate) fn called(p: Participant, op: u8, d: &[u8]) -> Participant {
         1 => make(d),
         2 => {
             let verdict = number::octet(d, 8) != 0;
-            let r = receive::receive::receive(p, number::u64_at(d, 0), verdict, rest(d, 9));
+            let r = receive::receive(p, number::u64_at(d, 0), verdict, rest(d, 9));
             r.participant
         }
         3 => {
             let mut out = [0u8; 2048];
-            let r = send::send::send(p, number::u64_at(d, 0), 1, 1, &mut out);
+            let r = send::send(p, number::u64_at(d, 0), 1, 1, &mut out);
             r.participant
         }
         4 => {
-            let r = distribute::distribute::distribute(p, number::u64_at(d, 0), rest(d, 8));
+            let r = distribute::distribute(p, number::u64_at(d, 0), rest(d, 8));
             r.participant
         }
         _ => p,

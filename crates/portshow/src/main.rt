@@ -2,7 +2,6 @@
 use libc::STDIN_FILENO;
 use libc::STDOUT_FILENO;
 use page::line::Line;
-use shown::show;
 
 fn say(l: Line) {
     let text = l.text;
@@ -15,5 +14,5 @@ fn say(l: Line) {
 fn main() {
     let mut space = io::buffer();
     let n = io::read_full(STDIN_FILENO, &mut space);
-    say(show::show(&space[..n]));
+    say(shown::show(&space[..n]));
 }

@@ -2,13 +2,13 @@
 use Prim.Native.Nat.{ℕ, _-_}
 use mathlib.Core.Bool.{Bool, true, false, not, _||_, _&&_}
 use lib.Dec.{leb, eqb}
-use Rattle.election.specs.declared.elect.Rank.{Rank}
-use Rattle.election.specs.declared.elect.Server.{Server}
-use Rattle.election.specs.declared.elect.Server.the-variants.{Nobody, Ourselves, Elected}
+use Rattle.election.specs.declared.Rank.{Rank}
+use Rattle.election.specs.declared.Server.{Server}
+use Rattle.election.specs.declared.Server.the-variants.{Nobody, Ourselves, Elected}
 use Rattle.election.specs.Elect.{elected}
 use Rattle.expiry.specs.Expiry.{freshAt}
 use Rattle.counts.specs.Counts.{potentialCount}
-use Rattle.participant.specs.declared.record.Participant.{Participant}
+use Rattle.participant.specs.declared.Participant.{Participant}
 
 abbrev pub ownRank : Participant → Rank
 ownRank p = record { priority = p .priority; sci = p .sci; mi = p .mi }

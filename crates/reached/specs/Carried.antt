@@ -4,7 +4,7 @@ use mathlib.Core.List.{List, [], _∷_}
 use Rattle.octets.proofs.Laws.{Octets}
 use Rattle.members.proofs.Laws.{Fitting}
 use Rattle.lists.specs.Laws.{by-cases}
-use Rattle.participant.specs.declared.record.Participant.{Participant}
+use Rattle.participant.specs.declared.Participant.{Participant}
 use Rattle.participant.proofs.Settle.{NoneHolds}
 use Rattle.history.specs.Calls.{Creation, Call, receives, sends, distributes, ticks, renews, reports, asks, saves, after, accepted}
 use Rattle.history.specs.Steps.{facts, becomes, accepted-none}

@@ -19,9 +19,9 @@ use Rattle.changes.specs.Renew.{taken, renewed}
 use Rattle.changes.specs.Report.{misreported, installed}
 use Rattle.distribute.specs.Distribute.{confidentialityOf, freshKey, withFresh}
 use Rattle.participant.specs.Keys.{noSlot, slotOf, ofMember, isKey, withKey, withoutKeys}
-use Rattle.participant.specs.declared.record.Key.{Key}
-use Rattle.participant.specs.declared.record.Slot.{Slot}
-use Rattle.participant.specs.declared.record.Participant.{Participant}
+use Rattle.participant.specs.declared.Key.{Key}
+use Rattle.participant.specs.declared.Slot.{Slot}
+use Rattle.participant.specs.declared.Participant.{Participant}
 use Rattle.participant.specs.declared.call.Answer.the-variants.{Done}
 use Rattle.participant.proofs.Settle.{NoneHolds}
 use Rattle.calls.specs.Fields.{an-below}

@@ -15,9 +15,9 @@ use Rattle.expiry.specs.Expiry.{freshPeer, lapsed, agedPeer, agedList, expired}
 use Rattle.enter.specs.Enter.{updated, enterList, entered}
 use Rattle.lookup.specs.Look.{heldIn, noRoomFor}
 use Rattle.expiry.specs.Kept.{Tidy}
-use Rattle.enter.specs.declared.enter.Heard.{Heard}
-use Rattle.table.specs.declared.table.Peer.{Peer}
-use Rattle.table.specs.declared.table.Table.{Table}
+use Rattle.enter.specs.declared.Heard.{Heard}
+use Rattle.table.specs.declared.Peer.{Peer}
+use Rattle.table.specs.declared.Table.{Table}
 use Rattle.lists.specs.Laws.{by-cases}
 use Rattle.expiry.proofs.Aging.{aged-same, whole-tidy, tidy-expired, entries-empty, entries-expired}
 use Rattle.kept.specs.Entering.{entries-entered}
@@ -27,7 +27,7 @@ use Rattle.creation.specs.Create.{fresh}
 use Rattle.changes.specs.Renew.{renewed}
 use Rattle.distribute.specs.Distribute.{withFresh}
 use Rattle.participant.specs.Keys.{withKey}
-use Rattle.participant.specs.declared.record.Participant.{Participant}
+use Rattle.participant.specs.declared.Participant.{Participant}
 use Rattle.participant.specs.declared.call.Answer.the-variants.{Done}
 use Rattle.participant.proofs.Settle.{NoneHolds}
 use Rattle.judge.specs.Judge.{basicIn, frameFacts}

@@ -13,7 +13,7 @@ use Rattle.octets.proofs.Laws.{Octets, beAt-lt}
 use Rattle.sets.specs.Kinds.{sakAt, sakIn}
 use Rattle.places.specs.Once.{noPlaces, placesWith}
 use Rattle.sets.specs.Set.{lenAt, badBody, badShape, badHead, badSet}
-use Rattle.places.specs.declared.once.Places.{Places}
+use Rattle.places.specs.declared.Places.{Places}
 use Rattle.sets.proofs.Laws.{or-false, head-room, good-head}
 use Rattle.walk.specs.Walk.{nextAt, placesAfter, walkGo, walkFrom, walkOf}
 use Rattle.lists.specs.Laws.{by-cases, clash, second-of}

@@ -17,7 +17,7 @@ use Rattle.frame.specs.declared.basic.BasicRead.the-variants.{Read, Refused as 
 use Rattle.sets.specs.Kinds.{typeOf}
 use Rattle.places.specs.Once.{noPlaces, placesWith}
 use Rattle.sets.specs.Set.{lenAt, badSet, setFields, extentOf}
-use Rattle.places.specs.declared.once.Places.{Places}
+use Rattle.places.specs.declared.Places.{Places}
 use Rattle.sets.specs.declared.set.Set.{Set}
 use Rattle.sets.proofs.Laws.{type-kind, extent-least}
 use Rattle.walk.specs.Walk.{nextAt, placesAfter, walkGo, walkFrom, walkOf}

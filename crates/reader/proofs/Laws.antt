@@ -7,7 +7,7 @@ use borrow.Author.Tests.{eq-eqb, ne-eqb, le-leb, lt-leb}
 use Rattle.sets.specs.Kinds.{typeOf}
 use Rattle.places.specs.Once.{placesWith}
 use Rattle.sets.specs.Set.{badSet, setFields, setOf, extentOf}
-use Rattle.places.specs.declared.once.Places.{Places}
+use Rattle.places.specs.declared.Places.{Places}
 use Rattle.sets.specs.declared.set.Set.{Set}
 use Rattle.sets.specs.declared.set.SetRead.the-variants.{Good, Bad as Wrong}
 use Rattle.sets.proofs.Laws as rules

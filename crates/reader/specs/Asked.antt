@@ -10,7 +10,7 @@ use Rattle.frame.specs.declared.basic.BasicRead.the-variants.{Read, Refused as 
 use Rattle.sets.specs.Kinds.{typeOf}
 use Rattle.places.specs.Once.{noPlaces, placesWith}
 use Rattle.sets.specs.Set.{badSet, setFields, extentOf}
-use Rattle.places.specs.declared.once.Places.{Places}
+use Rattle.places.specs.declared.Places.{Places}
 use Rattle.sets.specs.declared.set.Set.{Set}
 use Rattle.walk.specs.Walk.{nextAt, placesAfter, walkOf}
 use Rattle.walk.specs.declared.Walked.{Walked}

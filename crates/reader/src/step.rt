@@ -1,8 +1,7 @@
 // One step over the sets of a frame, by value: what is read at a position, and the position after it.
 use frame::basic;
 use frame::basic::BasicRead;
-use places::once;
-use places::once::Places;
+use places::Places;
 use sets::kinds;
 use sets::set;
 use sets::set::Set;
@@ -41,13 +40,13 @@ pub fn start(frame: &[u8]) -> Position
             refused: 0,
             at: b.next,
             stop: b.stop,
-            seen: once::none(),
+            seen: places::none(),
         },
         BasicRead::Refused(n) => Position {
             refused: n,
             at: 0,
             stop: 0,
-            seen: once::none(),
+            seen: places::none(),
         },
     }
 }
@@ -85,7 +84,7 @@ pub fn step(frame: &[u8], p: Position) -> Stepped
             refused: 0,
             at: at + set::extent(t, set.len),
             stop,
-            seen: once::with(seen, t, at, set.len),
+            seen: places::with(seen, t, at, set.len),
         },
     }
 }

@@ -7,7 +7,7 @@ use Rattle.table.specs.Table.{tableOf}
 use Rattle.participant.specs.Record.{setTable, setLatest, setOld}
 use Rattle.participant.specs.Call.{settle}
 use Rattle.creation.specs.Create.{nobody}
-use Rattle.participant.specs.declared.record.Participant.{Participant}
+use Rattle.participant.specs.declared.Participant.{Participant}
 use Rattle.participant.specs.declared.call.Called.{Called}
 use Rattle.layout.specs.Layout.{recordsAt, offsetAt, laidOut}
 use Rattle.own.specs.Own.{ownAt, ownClean}

@@ -7,11 +7,11 @@ use native.Mathlib.Omega.{arith}
 use lib.Dec.{eqb}
 use Rattle.facts.specs.Facts.{firstOf}
 use Rattle.frame.specs.declared.basic.Basic.{Basic}
-use Rattle.places.specs.declared.once.Places.{Places}
-use Rattle.participant.specs.declared.record.Participant.{Participant}
+use Rattle.places.specs.declared.Places.{Places}
+use Rattle.participant.specs.declared.Participant.{Participant}
 use Rattle.judge.specs.Judge.{basicIn, walkIn, placesIn, frameFacts, judgedOf}
 use Rattle.receive.specs.Receive.{tableFacts, receiveFacts}
-use Rattle.judge.specs.declared.judge.Judged.the-variants as judged
+use Rattle.judge.specs.declared.Judged.the-variants as judged
 
 -- ---- the first fact of two lists
 

@@ -7,26 +7,26 @@ use lib.ListN.{set}
 use Rattle.members.specs.Mi.{miSame}
 use Rattle.members.specs.declared.mi.Mi.{Mi}
 use Rattle.frame.specs.declared.basic.Basic.{Basic}
-use Rattle.places.specs.declared.once.Spot.{Spot}
-use Rattle.places.specs.declared.once.Places.{Places}
+use Rattle.places.specs.declared.Spot.{Spot}
+use Rattle.places.specs.declared.Places.{Places}
 use Rattle.table.specs.Table.{entries}
 use Rattle.expiry.specs.Expiry.{steadyIn}
 use Rattle.lookup.specs.Look.{heldIn, staleFor, noRoomFor, becomesLive}
 use Rattle.enter.specs.Enter.{updated, placeFor, grownBy}
 use Rattle.enter.specs.Enter.{heldPeer}
-use Rattle.table.specs.declared.table.Table.{Table}
-use Rattle.lookup.specs.declared.look.Held.{Held}
+use Rattle.table.specs.declared.Table.{Table}
+use Rattle.lookup.specs.declared.Held.{Held}
 use Rattle.expiry.proofs.Aging.{expired-steady}
 use Rattle.kept.specs.InPlace.{in-place}
 use Rattle.participant.specs.Record.{setMark, setClock, setTable}
 use Rattle.participant.specs.Call.{agedTo}
-use Rattle.participant.specs.declared.record.Participant.{Participant}
+use Rattle.participant.specs.declared.Participant.{Participant}
 use Rattle.hearing.specs.Proof.{provesIn}
 use Rattle.judge.specs.Judge.{judgedOf}
 use Rattle.hearing.specs.Keys.{keyedOf}
 use Rattle.receive.specs.Receive.{heardOf, admitted, heldAt, tableFacts, refusedOf, acceptedOf, updatedBy, acceptedBy, settledBy, receivedOf}
-use Rattle.judge.specs.declared.judge.Judged.the-variants as judged
-use Rattle.receive.specs.declared.receive.Answer.the-variants.{Accepted}
+use Rattle.judge.specs.declared.Judged.the-variants as judged
+use Rattle.receive.specs.declared.Answer.the-variants.{Accepted}
 use Rattle.receive.proofs.Laws.{judged-good}
 
 -- facts 11 and 12 are left where the frame is good and its sender another than we

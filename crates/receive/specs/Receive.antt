@@ -6,19 +6,19 @@ use lib.Dec.{eqb}
 use Rattle.facts.specs.Facts.{firstOf}
 use Rattle.members.specs.Mi.{miSame}
 use Rattle.frame.specs.declared.basic.Basic.{Basic}
-use Rattle.places.specs.declared.once.Places.{Places}
+use Rattle.places.specs.declared.Places.{Places}
 use Rattle.lookup.specs.Look.{heldIn, staleFor, noRoomFor, becomesLive}
 use Rattle.enter.specs.Enter.{enteredAt}
-use Rattle.lookup.specs.declared.look.Held.{Held}
-use Rattle.enter.specs.declared.enter.Heard.{Heard}
+use Rattle.lookup.specs.declared.Held.{Held}
+use Rattle.enter.specs.declared.Heard.{Heard}
 use Rattle.participant.specs.Record.{setMark, setTable}
 use Rattle.participant.specs.Call.{agedTo}
-use Rattle.participant.specs.declared.record.Participant.{Participant}
-use Rattle.judge.specs.declared.judge.Judged.{Judged}
-use Rattle.judge.specs.declared.judge.Judged.the-variants as judged
+use Rattle.participant.specs.declared.Participant.{Participant}
+use Rattle.judge.specs.declared.Judged.{Judged}
+use Rattle.judge.specs.declared.Judged.the-variants as judged
 use Rattle.hearing.specs.declared.keys.Keyed.{Keyed}
-use Rattle.receive.specs.declared.receive.Answer.the-variants.{Accepted, Refused}
-use Rattle.receive.specs.declared.receive.Received.{Received}
+use Rattle.receive.specs.declared.Answer.the-variants.{Accepted, Refused}
+use Rattle.receive.specs.declared.Received.{Received}
 use Rattle.hearing.specs.Proof.{provesIn}
 use Rattle.judge.specs.Judge.{basicIn, walkIn, placesIn, frameFacts}
 use Rattle.hearing.specs.Keys.{keyedOf}

@@ -4,9 +4,9 @@ use mathlib.Core.Path.{_≡_}
 use mathlib.Core.List.{List, [], _∷_}
 use lib.ListN.{length}
 use Rattle.members.proofs.Laws.{Fitting}
-use Rattle.table.specs.declared.table.Peer.{Peer}
-use Rattle.participant.specs.declared.record.Key.{Key}
-use Rattle.participant.specs.declared.record.Participant.{Participant}
+use Rattle.table.specs.declared.Peer.{Peer}
+use Rattle.participant.specs.declared.Key.{Key}
+use Rattle.participant.specs.declared.Participant.{Participant}
 
 pub record FitPeer (p : Peer) : Type 0 where
   pub mi : Fitting (p .mi)

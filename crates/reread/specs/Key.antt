@@ -15,7 +15,7 @@ use Rattle.members.proofs.Laws.{length-mi, mi-stands}
 use Rattle.packed.specs.Bit.{bit}
 use Rattle.packed.proofs.Laws.{bit-lt, bit-eqb, eqb-bit}
 use Rattle.lists.specs.Laws.{both, first-of, second-of}
-use Rattle.participant.specs.declared.record.Key.{Key}
+use Rattle.participant.specs.declared.Key.{Key}
 use Rattle.key.specs.Key.{keyFlags, keyOctets, keyAt, keyClean}
 use Rattle.reread.specs.Fit.{FitKey}
 use Rattle.reread.specs.Cut.{cut, glue, octet-cut, mi-cut, after-it}

@@ -19,7 +19,7 @@ use Rattle.table.specs.Table.{emptyTable}
 use Rattle.lists.specs.Laws.{both, first-of, second-of}
 use Rattle.participant.specs.Record.{first32, first24, setTable, setLatest, setOld}
 use Rattle.participant.specs.Keys.{noSlot}
-use Rattle.participant.specs.declared.record.Participant.{Participant}
+use Rattle.participant.specs.declared.Participant.{Participant}
 use Rattle.own.specs.Own.{namedOctets, timesOctets, keptOctets, ownOctets, ownAt, ownClean}
 use Rattle.own.proofs.Lengths.{length-named, length-times}
 use Rattle.reread.specs.Fit.{FitOwn}

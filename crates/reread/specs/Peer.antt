@@ -16,7 +16,7 @@ use Rattle.members.proofs.Laws.{length-mi, mi-stands}
 use Rattle.packed.specs.Bit.{bit}
 use Rattle.packed.proofs.Laws.{bit-lt, bit-eqb, eqb-bit}
 use Rattle.lists.specs.Lists.{every}
-use Rattle.table.specs.declared.table.Peer.{Peer}
+use Rattle.table.specs.declared.Peer.{Peer}
 use Rattle.lists.specs.Laws.{both, first-of, second-of}
 use Rattle.peer.specs.Peer.{peerFlags, peerOctets, peersOctets, peerAt, peerClean, peersAt, peersClean}
 use Rattle.peer.proofs.Laws.{length-peer}

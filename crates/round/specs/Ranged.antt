@@ -11,8 +11,8 @@ use Rattle.members.specs.declared.entry.Entry.{Entry}
 use Rattle.members.proofs.Laws.{Fitting}
 use Rattle.frame.specs.declared.basic.Basic.{Basic}
 use Rattle.places.specs.Once.{absentSpot, spotAt}
-use Rattle.places.specs.declared.once.Spot.{Spot}
-use Rattle.places.specs.declared.once.Places.{Places}
+use Rattle.places.specs.declared.Spot.{Spot}
+use Rattle.places.specs.declared.Places.{Places}
 use Rattle.sets.specs.declared.kinds.KeyUse.{KeyUse}
 use Rattle.sets.specs.declared.kinds.SakHeader.{SakHeader}
 use Rattle.writer.specs.Frame.{listSet, usePart, bodyOctets}

@@ -22,8 +22,8 @@ use Rattle.frame.specs.declared.basic.BasicRead.the-variants.{Read}
 use Rattle.sets.specs.Kinds.{sakUseAt, sakAt}
 use Rattle.places.specs.Once.{absentSpot, noPlaces, holds, placesWith}
 use Rattle.sets.specs.Set.{listLen, badBody}
-use Rattle.places.specs.declared.once.Spot.{Spot}
-use Rattle.places.specs.declared.once.Places.{Places}
+use Rattle.places.specs.declared.Spot.{Spot}
+use Rattle.places.specs.declared.Places.{Places}
 use Rattle.walk.specs.List.{entriesFrom, listAt}
 use Rattle.walk.specs.Walk.{walkFrom, walkOf}
 use Rattle.walk.specs.declared.Walked.the-variants.{End}

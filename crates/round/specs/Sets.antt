@@ -26,8 +26,8 @@ use Rattle.packed.proofs.Laws.{used-round, sak-round}
 use Rattle.sets.specs.Kinds.{keyUseAt, sakUseAt, sakAt}
 use Rattle.places.specs.Once.{absentSpot, spotAt, holds, placesWith}
 use Rattle.sets.specs.Set.{lenAt, listLen, badBody, badShape, badHead, badSet, extentOf}
-use Rattle.places.specs.declared.once.Spot.{Spot}
-use Rattle.places.specs.declared.once.Places.{Places}
+use Rattle.places.specs.declared.Spot.{Spot}
+use Rattle.places.specs.declared.Places.{Places}
 use Rattle.sets.specs.declared.kinds.KeyUse.{KeyUse}
 use Rattle.sets.specs.declared.kinds.SakUse.{SakUse}
 use Rattle.walk.specs.List.{entriesFrom}

@@ -9,8 +9,8 @@ use lib.Seq.{drop-cons}
 use lib.Dec.{eqb}
 use Rattle.members.specs.declared.mi.Mi.{Mi}
 use Rattle.members.specs.Mi.{miSame}
-use Rattle.table.specs.declared.table.Peer.{Peer}
-use Rattle.table.specs.declared.table.Table.{Table}
+use Rattle.table.specs.declared.Peer.{Peer}
+use Rattle.table.specs.declared.Table.{Table}
 use Rattle.lists.specs.Lists.{every}
 use Rattle.table.specs.Table.{entries}
 use Rattle.expiry.specs.Expiry.{freshPeer}

@@ -11,12 +11,12 @@ use Rattle.lists.specs.Lists.{every}
 use Rattle.table.specs.Table.{entries}
 use Rattle.expiry.specs.Expiry.{freshPeer}
 use Rattle.expiry.specs.Kept.{absent, distinct, numbered, timely, freshProof, ordered}
-use Rattle.table.specs.declared.table.Peer.{Peer}
+use Rattle.table.specs.declared.Peer.{Peer}
 use Rattle.creation.specs.Create.{badStart}
 use Rattle.participant.specs.Keys.{isKey}
-use Rattle.participant.specs.declared.record.Key.{Key}
-use Rattle.participant.specs.declared.record.Slot.{Slot}
-use Rattle.participant.specs.declared.record.Participant.{Participant}
+use Rattle.participant.specs.declared.Key.{Key}
+use Rattle.participant.specs.declared.Slot.{Slot}
+use Rattle.participant.specs.declared.Participant.{Participant}
 
 -- Where the one holds, the other does.
 abbrev pub only : Bool → Bool → Bool

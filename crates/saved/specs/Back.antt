@@ -16,11 +16,11 @@ use Rattle.members.proofs.Laws.{Fitting}
 use Rattle.packed.specs.Bit.{bit}
 use Rattle.table.specs.Table.{entries, tableOf}
 use Rattle.expiry.specs.Kept.{Tidy}
-use Rattle.table.specs.declared.table.Peer.{Peer}
+use Rattle.table.specs.declared.Peer.{Peer}
 use Rattle.expiry.proofs.Aging.{entries-tableOf, tidy-tableOf}
 use Rattle.lists.specs.Laws.{by-cases, first-of, second-of, clash}
 use Rattle.participant.specs.Keys.{noSlot}
-use Rattle.participant.specs.declared.record.Participant.{Participant}
+use Rattle.participant.specs.declared.Participant.{Participant}
 use Rattle.layout.specs.Layout.{Part, recordsAt, offsetAt, laidOf, laidOut, partsFrom, partsIn}
 use Rattle.layout.proofs.Back.{PlacedFrom, laid-placed, laid-back}
 use Rattle.own.specs.Own.{namedOctets, timesOctets, keptOctets, ownOctets, ownAt, ownClean}

@@ -9,7 +9,7 @@ use Rattle.octets.proofs.Laws.{Octets}
 use Rattle.lists.specs.Laws.{by-cases, never, clash}
 use Rattle.participant.specs.Call.{doneOf, refusedOf}
 use Rattle.creation.specs.Create.{nobody}
-use Rattle.participant.specs.declared.record.Participant.{Participant}
+use Rattle.participant.specs.declared.Participant.{Participant}
 use Rattle.participant.specs.declared.call.Answer.{Answer}
 use Rattle.participant.specs.declared.call.Answer.the-variants.{Done, Refused}
 use Rattle.saved.specs.WellFormed.{WellFormed}

@@ -11,13 +11,13 @@ use Rattle.octets.proofs.Fields.{Stands, first, second, moved}
 use Rattle.packed.specs.Bit.{bit}
 use Rattle.packed.proofs.Laws.{bit-lt}
 use Rattle.table.specs.Table.{entries, tableOf}
-use Rattle.table.specs.declared.table.Peer.{Peer}
+use Rattle.table.specs.declared.Peer.{Peer}
 use Rattle.lists.specs.Laws.{by-cases, both, first-of, second-of, clash}
 use Rattle.participant.specs.Record.{setTable, setLatest, setOld}
 use Rattle.participant.specs.Call.{doneOf}
 use Rattle.creation.specs.Create.{badStart}
-use Rattle.participant.specs.declared.record.Slot.{Slot}
-use Rattle.participant.specs.declared.record.Participant.{Participant}
+use Rattle.participant.specs.declared.Slot.{Slot}
+use Rattle.participant.specs.declared.Participant.{Participant}
 use Rattle.layout.specs.Layout.{Part, recordsAt, offsetAt, laidOf, bodies, laidOut}
 use Rattle.layout.proofs.Laws.{length-laid}
 use Rattle.layout.proofs.Round.{Matching, Told, ToldFrom, told, laid-round}

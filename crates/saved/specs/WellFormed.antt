@@ -4,8 +4,8 @@ use mathlib.Core.Bool.{true, cond}
 use Rattle.table.specs.Table.{entries}
 use Rattle.expiry.specs.Kept.{Tidy}
 use Rattle.participant.specs.Keys.{noSlot, slotOf}
-use Rattle.participant.specs.declared.record.Slot.{Slot}
-use Rattle.participant.specs.declared.record.Participant.{Participant}
+use Rattle.participant.specs.declared.Slot.{Slot}
+use Rattle.participant.specs.declared.Participant.{Participant}
 use Rattle.rules.specs.Rules.{only, rules}
 use Rattle.reread.specs.Fit.{FitPeers, FitKey, FitOwn}
 

@@ -14,10 +14,10 @@ use Rattle.writer.specs.Frame.{wroteOf}
 use Rattle.writer.specs.declared.mkpdu.Wrote.the-variants as wrote
 use Rattle.participant.specs.Call.{agedTo}
 use Rattle.participant.specs.Record.{setClock, setMn, setSent, setTable}
-use Rattle.participant.specs.declared.record.Participant.{Participant}
+use Rattle.participant.specs.declared.Participant.{Participant}
 use Rattle.participant.proofs.Settle.{First, NoneHolds, first-holds, none-holds}
-use Rattle.send.specs.declared.send.Answer.the-variants.{Octets, Refused}
-use Rattle.send.specs.declared.send.Sent.{Sent}
+use Rattle.send.specs.declared.Answer.the-variants.{Octets, Refused}
+use Rattle.send.specs.declared.Sent.{Sent}
 use Rattle.send.specs.Send.{frameAt, sendFacts, sentAt, refusedOf, sentOf, leftBy}
 
 cond-refused : (t : Bool) (n k : ℕ) → cond t (wrote.Refused 13) (wrote.Octets n) ≡ wrote.Refused k → t ≡ true

@@ -2,16 +2,16 @@
 use Prim.Native.Nat.{ℕ, _+_}
 use mathlib.Core.Bool.{Bool, true, false, cond, not, _&&_}
 use Rattle.counts.specs.Counts.{liveList, potentialList}
-use Rattle.election.specs.declared.elect.Server.{Server}
-use Rattle.election.specs.declared.elect.Server.the-variants.{Nobody, Ourselves, Elected}
+use Rattle.election.specs.declared.Server.{Server}
+use Rattle.election.specs.declared.Server.the-variants.{Nobody, Ourselves, Elected}
 use Rattle.sets.specs.declared.kinds.KeyUse.{KeyUse}
 use Rattle.writer.specs.declared.mkpdu.Sender.{Sender}
 use Rattle.writer.specs.declared.mkpdu.Sak.{Sak}
 use Rattle.writer.specs.declared.mkpdu.Mkpdu.{Mkpdu}
 use Rattle.questions.specs.Ask.{serverOf, electedSelf}
 use Rattle.participant.specs.Keys.{ofMember}
-use Rattle.participant.specs.declared.record.Slot.{Slot}
-use Rattle.participant.specs.declared.record.Participant.{Participant}
+use Rattle.participant.specs.declared.Slot.{Slot}
+use Rattle.participant.specs.declared.Participant.{Participant}
 
 -- "with the two lowest PNs lent by the host, zeros for an absent old key"
 unfoldable pub keyUseOf : Slot → ℕ → KeyUse

@@ -9,10 +9,10 @@ use Rattle.octets.specs.Run.{written}
 use Rattle.writer.specs.Frame.{frameOf}
 use Rattle.participant.specs.Record.{setMn, setSent}
 use Rattle.participant.specs.Call.{fact1, agedTo}
-use Rattle.participant.specs.declared.record.Participant.{Participant}
+use Rattle.participant.specs.declared.Participant.{Participant}
 use Rattle.send.specs.Message.{messageOf}
-use Rattle.send.specs.declared.send.Answer.the-variants.{Octets, Refused}
-use Rattle.send.specs.declared.send.Sent.{Sent}
+use Rattle.send.specs.declared.Answer.the-variants.{Octets, Refused}
+use Rattle.send.specs.declared.Sent.{Sent}
 
 -- the frame at the call's time
 unfoldable pub frameAt : Participant → ℕ → ℕ → ℕ → List ℕ

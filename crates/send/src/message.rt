@@ -1,10 +1,9 @@
 // What the next frame says.
-use election::elect::Server;
+use election::Server;
 use members::mi::Mi;
+use participant::Participant;
+use participant::Slot;
 use participant::keys;
-use participant::record::Participant;
-use participant::record::Slot;
-use questions::ask;
 use sets::kinds::KeyUse;
 use sets::kinds::SakUse;
 use writer::mkpdu::Mkpdu;
@@ -43,7 +42,7 @@ fn key_use(s: Slot, pn: u32) -> KeyUse
 fn server_flag(p: Participant) -> bool
     ensures { λ r. ⌜ r ≡ serverFlag p ⌝ }
 {
-    match ask::server(p) {
+    match questions::server(p) {
         Server::Nobody => true,
         Server::Ourselves => true,
         Server::Elected(_) => false,
@@ -57,7 +56,7 @@ fn hands_out(p: Participant) -> bool
     let latest = p.latest;
     let own = p.mi;
     if keys::of_member(latest, own) {
-        if ask::elected_self(p) {
+        if questions::elected_self(p) {
             return !p.mark;
         }
     }
@@ -111,8 +110,8 @@ pub(crate) fn message(p: Participant, latest_pn: u32, old_pn: u32) -> Mkpdu
     };
     Mkpdu {
         sender: sender(p),
-        live: counts::counts::live_list(t),
-        potential: counts::counts::potential_list(t),
+        live: counts::live_list(t),
+        potential: counts::potential_list(t),
         used: latest.held,
         usage,
         distributed: hands_out(p),

@@ -11,12 +11,12 @@ use Rattle.members.proofs.Laws.{Fitting}
 use Rattle.lists.specs.Lists.{those}
 use Rattle.table.specs.Table.{entries}
 use Rattle.counts.specs.Counts.{entryOf}
-use Rattle.table.specs.declared.table.Peer.{Peer}
+use Rattle.table.specs.declared.Peer.{Peer}
 use Rattle.counts.proofs.Listing.{live-listed, potential-listed}
 use Rattle.sets.specs.declared.kinds.KeyUse.{KeyUse}
-use Rattle.participant.specs.declared.record.Key.{Key}
-use Rattle.participant.specs.declared.record.Slot.{Slot}
-use Rattle.participant.specs.declared.record.Participant.{Participant}
+use Rattle.participant.specs.declared.Key.{Key}
+use Rattle.participant.specs.declared.Slot.{Slot}
+use Rattle.participant.specs.declared.Participant.{Participant}
 use Rattle.participant.specs.Keys.{ofMember}
 use Rattle.send.specs.Message.{keyUseOf, handsOut, senderOf, sakOf, messageOf}
 use Rattle.round.specs.Ranged.{GoodEntries, GoodKey, Ranged}

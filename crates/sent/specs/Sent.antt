@@ -20,7 +20,7 @@ use Rattle.counts.proofs.Listing.{live-listed, potential-listed}
 use Rattle.writer.specs.Frame.{bodyOctets}
 use Rattle.writer.specs.declared.mkpdu.Mkpdu.{Mkpdu}
 use Rattle.participant.specs.Call.{agedTo}
-use Rattle.participant.specs.declared.record.Participant.{Participant}
+use Rattle.participant.specs.declared.Participant.{Participant}
 use Rattle.send.specs.Message.{handsOut, keyUseOf, sakOf, senderOf, messageOf}
 use Rattle.send.specs.Send.{frameAt}
 use Rattle.round.specs.Ranged.{basicWritten, livePlace, usePlace, sakPlace, placesWritten, sakWritten}

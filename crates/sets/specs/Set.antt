@@ -8,7 +8,7 @@ use Rattle.facts.specs.Facts.{paddedOf}
 use Rattle.octets.specs.Number.{beAt}
 use Rattle.sets.specs.Kinds.{kindAt}
 use Rattle.places.specs.Once.{holds}
-use Rattle.places.specs.declared.once.Places.{Places}
+use Rattle.places.specs.declared.Places.{Places}
 use Rattle.sets.specs.declared.set.Set.{Set}
 use Rattle.sets.specs.declared.set.SetRead.{SetRead}
 use Rattle.sets.specs.declared.set.SetRead.the-variants.{Good, Bad}

@@ -3,8 +3,7 @@ use crate::kinds;
 use crate::kinds::Kind;
 use facts::Check;
 use octets::number;
-use places::once;
-use places::once::Places;
+use places::Places;
 ghost use mathlib.Core.Path.{_≡_};
 ghost use Prim.Native.Nat.{_<_, _^_};
 ghost use Rattle.facts.specs.Facts.{checkOf};
@@ -62,7 +61,7 @@ fn shape(t: u8, len: u16, room: usize, kn: u32, seen: Places) -> Check
     if bad_body(t, len, kn) {
         return Check::Failed;
     }
-    facts::fail_if(once::has(seen, t))
+    facts::fail_if(places::has(seen, t))
 }
 
 // The set at `at` by all rules but that on the lists' lengths, which a scan of the list tells.

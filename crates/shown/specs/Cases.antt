@@ -4,11 +4,11 @@ use mathlib.Core.Path.{_≡_, refl}
 use mathlib.Core.Bool.{Bool, true, false}
 use mathlib.Core.List.{[], _∷_}
 use Rattle.members.specs.declared.mi.Mi.{Mi}
-use Rattle.table.specs.declared.table.Peer.{Peer}
+use Rattle.table.specs.declared.Peer.{Peer}
 use Rattle.table.specs.Table.{tableOf, emptyTable}
 use Rattle.counts.specs.Counts.{liveCount, potentialCount}
 use Rattle.election.specs.Elect.{elected}
-use Rattle.participant.specs.declared.record.Participant.{Participant}
+use Rattle.participant.specs.declared.Participant.{Participant}
 use Rattle.participant.specs.Record.{setMn, setKn, setTable, setLatest}
 use Rattle.participant.specs.Keys.{noSlot}
 use Rattle.creation.specs.Create.{fresh}

@@ -3,7 +3,7 @@ use mathlib.Core.List.{List}
 use Prim.Native.Nat.{ℕ}
 use Rattle.participant.specs.declared.call.Answer.{Answer}
 use Rattle.participant.specs.declared.call.Answer.the-variants.{Done, Refused}
-use Rattle.participant.specs.declared.record.Participant.{Participant}
+use Rattle.participant.specs.declared.Participant.{Participant}
 use Rattle.reading.specs.Read.{readOf}
 use Rattle.page.specs.declared.line.Line.{Line}
 use Rattle.page.specs.Text.{lineOf, endedOf, refusedText}

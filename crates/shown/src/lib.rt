@@ -1,2 +1,21 @@
-// The line of the port page for the octets of an image.
-pub mod show;
+// The line of the port page for the octets of an image: what `portshow` prints.
+use page::line;
+use page::line::Line;
+use page::status;
+use participant::call::Answer;
+ghost use mathlib.Core.Path.{_≡_};
+ghost use Rattle.shown.specs.Show.{shownOf};
+
+pub fn show(image: &[u8]) -> Line
+    ensures { λ r. ⌜ r ≡ shownOf (now (image .entry)) ⌝ }
+{
+    let r = reading::read(image);
+    let a = r.answer;
+    match a {
+        Answer::Done => {
+            let p = r.participant;
+            line::ended(status::status(p))
+        }
+        Answer::Refused(n) => line::refused(n),
+    }
+}

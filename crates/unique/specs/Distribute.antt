@@ -2,5 +2,5 @@
 use Rattle.distribute.proofs as distribute
 use Rattle.unique.specs.Law.{OneAnswer, same}
 
-pub distribute·distribute·distribute : OneAnswer distribute.distribute.distribute.Kinds.ps distribute.distribute.distribute.Kinds.r distribute.distribute.distribute.Reads.Learnt
-distribute·distribute·distribute κs a z z′ e e′ h h′ = same h h′
+pub distribute·distribute : OneAnswer distribute.distribute.Kinds.ps distribute.distribute.Kinds.r distribute.distribute.Reads.Learnt
+distribute·distribute κs a z z′ e e′ h h′ = same h h′

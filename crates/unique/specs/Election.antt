@@ -2,5 +2,5 @@
 use Rattle.election.proofs as election
 use Rattle.unique.specs.Law.{OneAnswer, same}
 
-pub election·elect·elect : OneAnswer election.elect.elect.Kinds.ps election.elect.elect.Kinds.r election.elect.elect.Reads.Learnt
-election·elect·elect κs a z z′ e e′ h h′ = same h h′
+pub election·elect : OneAnswer election.elect.Kinds.ps election.elect.Kinds.r election.elect.Reads.Learnt
+election·elect κs a z z′ e e′ h h′ = same h h′

@@ -2,14 +2,14 @@
 use Rattle.expiry.proofs as expiry
 use Rattle.unique.specs.Law.{OneAnswer, same}
 
-pub expiry·expiry·fresh : OneAnswer expiry.expiry.fresh.Kinds.ps expiry.expiry.fresh.Kinds.r expiry.expiry.fresh.Reads.Learnt
-expiry·expiry·fresh κs a z z′ e e′ h h′ = same h h′
+pub expiry·fresh : OneAnswer expiry.fresh.Kinds.ps expiry.fresh.Kinds.r expiry.fresh.Reads.Learnt
+expiry·fresh κs a z z′ e e′ h h′ = same h h′
 
-pub expiry·expiry·oldest : OneAnswer expiry.expiry.oldest.Kinds.ps expiry.expiry.oldest.Kinds.r expiry.expiry.oldest.Reads.Learnt
-expiry·expiry·oldest κs a z z′ e e′ h h′ = same h h′
+pub expiry·oldest : OneAnswer expiry.oldest.Kinds.ps expiry.oldest.Kinds.r expiry.oldest.Reads.Learnt
+expiry·oldest κs a z z′ e e′ h h′ = same h h′
 
-pub expiry·expiry·still-from : OneAnswer expiry.expiry.still_from.Kinds.ps expiry.expiry.still_from.Kinds.r expiry.expiry.still_from.Reads.Learnt
-expiry·expiry·still-from κs a z z′ e e′ h h′ = same h h′
+pub expiry·still-from : OneAnswer expiry.still_from.Kinds.ps expiry.still_from.Kinds.r expiry.still_from.Reads.Learnt
+expiry·still-from κs a z z′ e e′ h h′ = same h h′
 
-pub expiry·expiry·expire : OneAnswer expiry.expiry.expire.Kinds.ps expiry.expiry.expire.Kinds.r expiry.expiry.expire.Reads.Learnt
-expiry·expiry·expire κs a z z′ e e′ h h′ = same h h′
+pub expiry·expire : OneAnswer expiry.expire.Kinds.ps expiry.expire.Kinds.r expiry.expire.Reads.Learnt
+expiry·expire κs a z z′ e e′ h h′ = same h h′

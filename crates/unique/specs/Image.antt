@@ -3,8 +3,8 @@ use denote.Ref.{now}
 use Rattle.image.proofs as image
 use Rattle.unique.specs.Law.{OneAnswer, OneSeen, same}
 
-pub image·write·write : OneAnswer image.write.write.Kinds.ps image.write.write.Kinds.r image.write.write.Reads.Learnt
-image·write·write κs a z z′ e e′ h h′ = same (h .0) (h′ .0)
+pub image·write : OneAnswer image.write.Kinds.ps image.write.Kinds.r image.write.Reads.Learnt
+image·write κs a z z′ e e′ h h′ = same (h .0) (h′ .0)
 
-pub image·write·write·left : OneSeen image.write.write.Kinds.ps image.write.write.Kinds.r image.write.write.Reads.Learnt (λ κs z e. now (e .0))
-image·write·write·left κs a z z′ e e′ h h′ = same (h .1) (h′ .1)
+pub image·write·left : OneSeen image.write.Kinds.ps image.write.Kinds.r image.write.Reads.Learnt (λ κs z e. now (e .0))
+image·write·left κs a z z′ e e′ h h′ = same (h .1) (h′ .1)

@@ -2,5 +2,5 @@
 use Rattle.judge.proofs as judge
 use Rattle.unique.specs.Law.{OneAnswer, same}
 
-pub judge·judge·judge : OneAnswer judge.judge.judge.Kinds.ps judge.judge.judge.Kinds.r judge.judge.judge.Reads.Learnt
-judge·judge·judge κs a z z′ e e′ h h′ = same h h′
+pub judge·judge : OneAnswer judge.judge.Kinds.ps judge.judge.Kinds.r judge.judge.Reads.Learnt
+judge·judge κs a z z′ e e′ h h′ = same h h′

@@ -3,11 +3,11 @@ use denote.Ref.{now}
 use Rattle.peer.proofs as peer
 use Rattle.unique.specs.Law.{OneAnswer, OneSeen, same}
 
-pub peer·peer·put-peers : OneSeen peer.peer.put_peers.Kinds.ps peer.peer.put_peers.Kinds.r peer.peer.put_peers.Reads.Learnt (λ κs z e. now (e .0))
-peer·peer·put-peers κs a z z′ e e′ h h′ = same h h′
+pub peer·put-peers : OneSeen peer.put_peers.Kinds.ps peer.put_peers.Kinds.r peer.put_peers.Reads.Learnt (λ κs z e. now (e .0))
+peer·put-peers κs a z z′ e e′ h h′ = same h h′
 
-pub peer·peer·peers-at : OneAnswer peer.peer.peers_at.Kinds.ps peer.peer.peers_at.Kinds.r peer.peer.peers_at.Reads.Learnt
-peer·peer·peers-at κs a z z′ e e′ h h′ = same h h′
+pub peer·peers-at : OneAnswer peer.peers_at.Kinds.ps peer.peers_at.Kinds.r peer.peers_at.Reads.Learnt
+peer·peers-at κs a z z′ e e′ h h′ = same h h′
 
-pub peer·peer·peers-clean : OneAnswer peer.peer.peers_clean.Kinds.ps peer.peer.peers_clean.Kinds.r peer.peer.peers_clean.Reads.Learnt
-peer·peer·peers-clean κs a z z′ e e′ h h′ = same h h′
+pub peer·peers-clean : OneAnswer peer.peers_clean.Kinds.ps peer.peers_clean.Kinds.r peer.peers_clean.Reads.Learnt
+peer·peers-clean κs a z z′ e e′ h h′ = same h h′

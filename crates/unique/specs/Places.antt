@@ -2,11 +2,11 @@
 use Rattle.places.proofs as places
 use Rattle.unique.specs.Law.{OneAnswer, same}
 
-pub places·once·none : OneAnswer places.once.none.Kinds.ps places.once.none.Kinds.r places.once.none.Reads.Learnt
-places·once·none κs a z z′ e e′ h h′ = same h h′
+pub places·none : OneAnswer places.none.Kinds.ps places.none.Kinds.r places.none.Reads.Learnt
+places·none κs a z z′ e e′ h h′ = same h h′
 
-pub places·once·has : OneAnswer places.once.has.Kinds.ps places.once.has.Kinds.r places.once.has.Reads.Learnt
-places·once·has κs a z z′ e e′ h h′ = same h h′
+pub places·has : OneAnswer places.has.Kinds.ps places.has.Kinds.r places.has.Reads.Learnt
+places·has κs a z z′ e e′ h h′ = same h h′
 
-pub places·once·with : OneAnswer places.once.with.Kinds.ps places.once.with.Kinds.r places.once.with.Reads.Learnt
-places·once·with κs a z z′ e e′ h h′ = same h h′
+pub places·with : OneAnswer places.with.Kinds.ps places.with.Kinds.r places.with.Reads.Learnt
+places·with κs a z z′ e e′ h h′ = same h h′

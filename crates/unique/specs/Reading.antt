@@ -2,5 +2,5 @@
 use Rattle.reading.proofs as reading
 use Rattle.unique.specs.Law.{OneAnswer, same}
 
-pub reading·read·read : OneAnswer reading.read.read.Kinds.ps reading.read.read.Kinds.r reading.read.read.Reads.Learnt
-reading·read·read κs a z z′ e e′ h h′ = same h h′
+pub reading·read : OneAnswer reading.read.Kinds.ps reading.read.Kinds.r reading.read.Reads.Learnt
+reading·read κs a z z′ e e′ h h′ = same h h′

@@ -2,5 +2,5 @@
 use Rattle.receive.proofs as receive
 use Rattle.unique.specs.Law.{OneAnswer, same}
 
-pub receive·receive·receive : OneAnswer receive.receive.receive.Kinds.ps receive.receive.receive.Kinds.r receive.receive.receive.Reads.Learnt
-receive·receive·receive κs a z z′ e e′ h h′ = same h h′
+pub receive·receive : OneAnswer receive.receive.Kinds.ps receive.receive.Kinds.r receive.receive.Reads.Learnt
+receive·receive κs a z z′ e e′ h h′ = same h h′

@@ -2,5 +2,5 @@
 use Rattle.rules.proofs as rules
 use Rattle.unique.specs.Law.{OneAnswer, same}
 
-pub rules·kept·kept : OneAnswer rules.kept.kept.Kinds.ps rules.kept.kept.Kinds.r rules.kept.kept.Reads.Learnt
-rules·kept·kept κs a z z′ e e′ h h′ = same h h′
+pub rules·kept : OneAnswer rules.kept.Kinds.ps rules.kept.Kinds.r rules.kept.Reads.Learnt
+rules·kept κs a z z′ e e′ h h′ = same h h′

@@ -2,5 +2,5 @@
 use Rattle.shown.proofs as shown
 use Rattle.unique.specs.Law.{OneAnswer, same}
 
-pub shown·show·show : OneAnswer shown.show.show.Kinds.ps shown.show.show.Kinds.r shown.show.show.Reads.Learnt
-shown·show·show κs a z z′ e e′ h h′ = same h h′
+pub shown·show : OneAnswer shown.show.Kinds.ps shown.show.Kinds.r shown.show.Reads.Learnt
+shown·show κs a z z′ e e′ h h′ = same h h′

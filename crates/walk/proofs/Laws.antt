@@ -8,7 +8,7 @@ use lib.ListN.{getD}
 use lib.Dec.{leb}
 use borrow.Author.Tests.{le-leb, lt-leb, leb-false}
 use Rattle.sets.specs.Set.{lenAt, badSet}
-use Rattle.places.specs.declared.once.Places.{Places}
+use Rattle.places.specs.declared.Places.{Places}
 use Rattle.sets.proofs.Laws.{extent-least}
 use Rattle.walk.specs.Walk.{nextAt, placesAfter, walkGo, walkFrom}
 use Rattle.walk.specs.declared.Walked.the-variants.{End, Bad}

@@ -6,7 +6,7 @@ use lib.ListN.{getD}
 use lib.Dec.{leb}
 use Rattle.places.specs.Once.{noPlaces, placesWith}
 use Rattle.sets.specs.Set.{lenAt, badSet, extentOf}
-use Rattle.places.specs.declared.once.Places.{Places}
+use Rattle.places.specs.declared.Places.{Places}
 use Rattle.walk.specs.declared.Walked.{Walked}
 use Rattle.walk.specs.declared.Walked.the-variants.{End, Bad}
 

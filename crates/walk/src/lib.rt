@@ -1,6 +1,5 @@
 // The walk over the further sets of a frame, and the search of a peer list.
-use places::once;
-use places::once::Places;
+use places::Places;
 use sets::kinds;
 use sets::set;
 use sets::set::SetRead;
@@ -20,7 +19,7 @@ pub fn walk(frame: &[u8], from: usize, stop: usize) -> Walked
     ensures { λ r. ⌜ r ≡ walkOf (now (frame .entry)) from stop ⌝ }
 {
     let mut at = from;
-    let mut places = once::none();
+    let mut places = places::none();
     'sets: loop {
         if stop <= at {
             break 'sets Walked::End(places);
@@ -38,7 +37,7 @@ pub fn walk(frame: &[u8], from: usize, stop: usize) -> Walked
             }
             left -= 16;
         }
-        places = once::with(places, t, at, len);
+        places = places::with(places, t, at, len);
         at += set::extent(t, len);
     }
 }

@@ -7,8 +7,8 @@ use native.Mathlib.Omega.{arith}
 use lib.Dec.{eqb}
 use borrow.Author.Tests.{eq-eqb, ne-eqb, eqb-true, eqb-false}
 use Rattle.facts.specs.Facts.{firstOf}
-use Rattle.members.specs.declared.mi.Mi.{Mi}
-use Rattle.frame.specs.declared.basic.Basic.{Basic}
+use Rattle.members.specs.declared.Mi.{Mi}
+use Rattle.frame.specs.declared.Basic.{Basic}
 use Rattle.sets.specs.Kinds.{sakIn}
 use Rattle.places.specs.declared.Spot.{Spot}
 use Rattle.places.specs.declared.Places.{Places}

@@ -2,8 +2,8 @@
 use Prim.Native.Nat.{ℕ}
 use mathlib.Core.Bool.{Bool}
 use mathlib.Core.List.{List}
-use Rattle.frame.specs.declared.basic.BasicRead.{BasicRead}
-use Rattle.frame.specs.declared.basic.BasicRead.the-variants as onBasic
+use Rattle.frame.specs.declared.BasicRead.{BasicRead}
+use Rattle.frame.specs.declared.BasicRead.the-variants as onBasic
 use Rattle.election.specs.declared.Server.{Server}
 use Rattle.participant.specs.declared.call.Answer.the-variants as onCall
 use Rattle.receive.specs.declared.Answer.the-variants as onReceive

@@ -1,7 +1,6 @@
 // Taking a new MI: refusals 1, 19.
 use facts::Check;
-use members::mi;
-use members::mi::Mi;
+use members::Mi;
 use participant::Participant;
 use participant::call;
 use participant::call::Called;
@@ -16,7 +15,7 @@ fn is_taken(p: Participant, m: Mi) -> bool
     let own = p.mi;
     let latest = p.latest;
     let old = p.old;
-    if mi::same_mi(own, m) {
+    if members::same_mi(own, m) {
         return true;
     }
     if keys::of_member(latest, m) {

@@ -1,6 +1,6 @@
 // An installation report: refusal 18.
 use facts::Check;
-use members::mi::Mi;
+use members::Mi;
 use participant::Participant;
 use participant::Slot;
 use participant::call;

@@ -1,7 +1,7 @@
 // How many peers are Live and how many Potential, and their lists for the writer, in table order.
+use members::Mi;
 use members::entry::Entries;
 use members::entry::Entry;
-use members::mi::Mi;
 use table::Peer;
 use table::ROOM;
 use table::Table;

@@ -1,6 +1,6 @@
 // Creating a participant: refusal 15.
 use facts::Check;
-use members::mi::Mi;
+use members::Mi;
 use octets::run;
 use participant::Participant;
 use participant::call;

@@ -1,5 +1,5 @@
 // Who is Key Server.
-use members::mi::Mi;
+use members::Mi;
 use table::Peer;
 use table::ROOM;
 use table::Table;

@@ -1,6 +1,6 @@
 // An accepted frame enters its sender at the end of the table, or updates it in its place.
 use lookup::Held;
-use members::mi::Mi;
+use members::Mi;
 use table::Peer;
 use table::ROOM;
 use table::Table;

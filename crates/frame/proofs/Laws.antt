@@ -10,7 +10,7 @@ use lib.Seq.{drop-cons}
 use borrow.Author.Tests.{eq-eqb, ne-eqb}
 use Rattle.frame.specs.Basic.{lengthOf, fact2, bodyLen}
 use Rattle.frame.specs.Ours.{sameAt}
-use Rattle.frame.specs.declared.basic.Length.the-variants.{Octets, Short}
+use Rattle.frame.specs.declared.Length.the-variants.{Octets, Short}
 
 cond-short : (t : Bool) (m : ℕ) → cond t Short (Octets m) ≡ Short → t ≡ true
 cond-short true m e = refl

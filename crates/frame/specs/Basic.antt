@@ -8,11 +8,11 @@ use Rattle.facts.specs.Facts.{firstOf, paddedOf}
 use Rattle.octets.specs.Number.{beAt}
 use Rattle.members.specs.Mi.{miAt}
 use Rattle.packed.specs.Basic.{flagsOf}
-use Rattle.frame.specs.declared.basic.Length.{Length}
-use Rattle.frame.specs.declared.basic.Length.the-variants.{Octets, Short}
-use Rattle.frame.specs.declared.basic.Basic.{Basic}
-use Rattle.frame.specs.declared.basic.BasicRead.{BasicRead}
-use Rattle.frame.specs.declared.basic.BasicRead.the-variants.{Read, Refused}
+use Rattle.frame.specs.declared.Length.{Length}
+use Rattle.frame.specs.declared.Length.the-variants.{Octets, Short}
+use Rattle.frame.specs.declared.Basic.{Basic}
+use Rattle.frame.specs.declared.BasicRead.{BasicRead}
+use Rattle.frame.specs.declared.BasicRead.the-variants.{Read, Refused}
 
 -- "Header: version, type, 2-octet body length."
 abbrev pub bodyLen : List ℕ → ℕ

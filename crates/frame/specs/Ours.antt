@@ -4,7 +4,7 @@ use mathlib.Core.List.{List, [], _∷_}
 use mathlib.Core.Bool.{Bool, true, not, _&&_}
 use lib.ListN.{length, getD}
 use lib.Dec.{eqb}
-use Rattle.frame.specs.declared.basic.Basic.{Basic}
+use Rattle.frame.specs.declared.Basic.{Basic}
 
 -- The octets xs stand at `at`.
 unfoldable pub sameAt : List ℕ → ℕ → List ℕ → Bool

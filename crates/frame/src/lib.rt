@@ -1,3 +1,124 @@
-// The EAPOL header and the Basic set of a frame: facts 2 to 7.
-pub mod basic;
+// The EAPOL header and the Basic set of a frame: facts 2 to 5 in their order, and what the Basic set says. Beside it facts 6 and 7.
+use facts::Check;
+use members::Mi;
+ghost use mathlib.Core.Path.{_≡_};
+ghost use Rattle.facts.specs.Facts.{checkOf};
+ghost use Rattle.frame.specs.Basic.{lengthOf, fact3, fact4, fact5, basicLen, basicFields, basicOf};
+
 pub mod ours;
+
+enum Length {
+    Octets(usize),
+    Short,
+}
+
+// `ckn` is the length of the CKN, which stands at 36; `next` the first further set's place; `stop` the ICV's, where the sets end.
+pub struct Basic {
+    pub version: u8,
+    pub priority: u8,
+    pub server: bool,
+    pub desired: bool,
+    pub capability: u8,
+    pub sci: u64,
+    pub mi: Mi,
+    pub mn: u32,
+    pub agility: u32,
+    pub ckn: usize,
+    pub next: usize,
+    pub stop: usize,
+}
+
+pub enum BasicRead {
+    Read(Basic),
+    Refused(u8),
+}
+
+fn body_length(frame: &[u8]) -> Length
+    ensures { λ r. ⌜ r ≡ lengthOf (now (frame .entry)) ⌝ }
+{
+    if frame.len() < 4 {
+        return Length::Short;
+    }
+    let n = octets::u16_at(frame, 2) as usize;
+    if frame.len() - 4 < n {
+        return Length::Short;
+    }
+    Length::Octets(n)
+}
+
+fn kind(frame: &[u8]) -> Check
+    ensures { λ r. ⌜ r ≡ checkOf (fact3 (now (frame .entry))) ⌝ }
+{
+    if octets::octet(frame, 0) < 3 {
+        return Check::Failed;
+    }
+    facts::fail_if(octets::octet(frame, 1) != 5)
+}
+
+fn body_shape(n: usize) -> Check
+    ensures { λ r. ⌜ r ≡ checkOf (fact4 n) ⌝ }
+{
+    if n < 32 {
+        return Check::Failed;
+    }
+    facts::fail_if(n % 4 != 0)
+}
+
+fn basic_length(frame: &[u8]) -> u16
+    ensures { λ r. ⌜ r ≡ basicLen (now (frame .entry)) ⌝ }
+{
+    let f = packed::basic::unpack(octets::octet(frame, 6));
+    let high = f.high as u16;
+    high * 256 + octets::octet(frame, 7) as u16
+}
+
+fn basic_shape(n: u16, body: usize) -> Check
+    ensures { λ r. ⌜ r ≡ checkOf (fact5 n body) ⌝ }
+{
+    if n < 29 {
+        return Check::Failed;
+    }
+    if 60 < n {
+        return Check::Failed;
+    }
+    facts::fail_if(body < 4 + facts::padded(n) + 16)
+}
+
+fn basic_fields(frame: &[u8], n: u16, body: usize) -> Basic
+    ensures { λ r. ⌜ r ≡ basicFields (now (frame .entry)) n body ⌝ }
+{
+    let f = packed::basic::unpack(octets::octet(frame, 6));
+    Basic {
+        version: octets::octet(frame, 4),
+        priority: octets::octet(frame, 5),
+        server: f.server,
+        desired: f.desired,
+        capability: f.capability,
+        sci: octets::u64_at(frame, 8),
+        mi: members::mi_at(frame, 16),
+        mn: octets::u32_at(frame, 28),
+        agility: octets::u32_at(frame, 32),
+        ckn: facts::less(n as usize, 28),
+        next: 8 + facts::padded(n),
+        stop: facts::less(body, 12),
+    }
+}
+
+pub fn read_basic(frame: &[u8]) -> BasicRead
+    ensures { λ r. ⌜ r ≡ basicOf (now (frame .entry)) ⌝ }
+{
+    let Length::Octets(body) = body_length(frame) else {
+        return BasicRead::Refused(2);
+    };
+    let Check::Passed = kind(frame) else {
+        return BasicRead::Refused(3);
+    };
+    let Check::Passed = body_shape(body) else {
+        return BasicRead::Refused(4);
+    };
+    let n = basic_length(frame);
+    let Check::Passed = basic_shape(n, body) else {
+        return BasicRead::Refused(5);
+    };
+    BasicRead::Read(basic_fields(frame, n, body))
+}

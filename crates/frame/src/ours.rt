@@ -1,7 +1,6 @@
 // Whether a frame is for us: facts 6 and 7.
-use crate::basic::Basic;
+use crate::Basic;
 use facts::Check;
-use octets::number;
 ghost use mathlib.Core.Path.{_≡_};
 ghost use Prim.Native.Nat.{_<_, _^_};
 ghost use Rattle.facts.specs.Facts.{checkOf};
@@ -16,7 +15,7 @@ fn same_at(s: &[u8], at: usize, key: &[u8]) -> bool
     let mut p = at;
     let mut i = 0;
     while i < key.len() {
-        if number::octet(s, p) == key[i] {
+        if octets::octet(s, p) == key[i] {
             p += 1;
             i += 1;
         } else {

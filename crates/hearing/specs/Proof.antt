@@ -4,7 +4,7 @@ use mathlib.Core.Bool.{Bool, false, not, _||_, _&&_}
 use mathlib.Core.List.{List, [], _∷_}
 use lib.Dec.{ltb, leb, eqb}
 use Rattle.members.specs.Mi.{miSame}
-use Rattle.members.specs.declared.mi.Mi.{Mi}
+use Rattle.members.specs.declared.Mi.{Mi}
 use Rattle.members.specs.declared.entry.Entry.{Entry}
 use Rattle.places.specs.declared.Spot.{Spot}
 use Rattle.places.specs.declared.Places.{Places}

@@ -1,7 +1,6 @@
 // A Distributed SAK, used only if its sender is elected after the frame's update.
 use election::Server;
-use members::mi;
-use members::mi::Mi;
+use members::Mi;
 use participant::Key;
 use participant::Participant;
 use participant::keys;
@@ -24,7 +23,7 @@ fn is_server(p: Participant, m: Mi) -> bool
     match questions::server(p) {
         Server::Nobody => false,
         Server::Ourselves => false,
-        Server::Elected(x) => mi::same_mi(x, m),
+        Server::Elected(x) => members::same_mi(x, m),
     }
 }
 

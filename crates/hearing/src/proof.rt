@@ -1,5 +1,5 @@
 // Whether a frame proves that its sender hears us.
-use members::mi::Mi;
+use members::Mi;
 use places::Places;
 use places::Spot;
 use walk::list;

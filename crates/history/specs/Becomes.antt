@@ -7,7 +7,7 @@ use mathlib.Core.Option.{Option, none, some}
 use native.Mathlib.Omega.{arith}
 use lib.Dec.{eqb}
 use borrow.Author.Tests.{ltb-false}
-use Rattle.members.specs.declared.mi.Mi.{Mi}
+use Rattle.members.specs.declared.Mi.{Mi}
 use Rattle.sets.specs.Kinds.{sakIn}
 use Rattle.places.specs.declared.Spot.{Spot}
 use Rattle.expiry.specs.Expiry.{expired}

@@ -6,7 +6,7 @@ use mathlib.Core.List.{List, [], _∷_}
 use mathlib.Core.Logic.{_⊎_, inl, inr}
 use lib.Dec.{eqb}
 use borrow.Author.Tests.{not-false, eqb-false}
-use Rattle.members.specs.declared.mi.Mi.{Mi}
+use Rattle.members.specs.declared.Mi.{Mi}
 use Rattle.sets.specs.Kinds.{sakIn}
 use Rattle.places.specs.declared.Spot.{Spot}
 use Rattle.sets.specs.declared.kinds.SakHeader.{SakHeader}

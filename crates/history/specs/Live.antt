@@ -9,7 +9,7 @@ use mathlib.Core.Logic.{_↔_, ⊎-elim}
 use native.Mathlib.Omega.{arith}
 use borrow.Author.Tests.{ltb-true, lt-ltb}
 use Rattle.members.specs.Mi.{miSame}
-use Rattle.members.specs.declared.mi.Mi.{Mi}
+use Rattle.members.specs.declared.Mi.{Mi}
 use Rattle.members.specs.declared.entry.Entry.{Entry}
 use Rattle.walk.specs.List.{entriesIn}
 use Rattle.expiry.specs.Expiry.{lifeTime, freshAt}

@@ -6,7 +6,7 @@ use mathlib.Core.List.{List, []}
 use mathlib.Core.Option.{Option, none, some}
 use borrow.Author.Tests.{ltb-false}
 use Rattle.members.specs.Mi.{miSame}
-use Rattle.members.specs.declared.mi.Mi.{Mi}
+use Rattle.members.specs.declared.Mi.{Mi}
 use Rattle.expiry.specs.Expiry.{expired}
 use Rattle.kept.specs.Proved.{provedAt, agedProof, isSome}
 use Rattle.lookup.specs.Look.{heldIn, liveFor}

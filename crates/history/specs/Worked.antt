@@ -8,7 +8,7 @@ use Rattle.octets.specs.Number.{beAt, beOf}
 use Rattle.octets.specs.Run.{written}
 use Rattle.members.specs.Mi.{miAt, miOctets}
 use Rattle.members.specs.Entry.{entryAt}
-use Rattle.members.specs.declared.mi.Mi.{Mi}
+use Rattle.members.specs.declared.Mi.{Mi}
 use Rattle.frame.specs.Basic.{basicFields}
 use Rattle.frame.specs.Ours.{sameAt, fact6}
 use Rattle.places.specs.Once.{holds, placesWith}

@@ -7,8 +7,8 @@ use native.Mathlib.Omega.{arith}
 use lib.Dec.{eqb}
 use Rattle.facts.specs.Facts.{firstOf}
 use Rattle.frame.specs.Basic.{bodyLen, basicLen, fact2, fact3, fact4, fact5, basicAnswer, basicOf}
-use Rattle.frame.specs.declared.basic.Basic.{Basic}
-use Rattle.frame.specs.declared.basic.BasicRead.the-variants as read
+use Rattle.frame.specs.declared.Basic.{Basic}
+use Rattle.frame.specs.declared.BasicRead.the-variants as read
 use Rattle.judge.specs.Judge.{basicIn}
 
 four-good : (t2 t3 t4 t5 : Bool) (x b : Basic) → basicAnswer (firstOf ((2, t2) ∷ (3, t3) ∷ (4, t4) ∷ (5, t5) ∷ [])) x ≡ read.Read b

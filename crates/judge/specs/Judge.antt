@@ -7,9 +7,9 @@ use lib.Dec.{eqb}
 use Rattle.facts.specs.Facts.{firstOf}
 use Rattle.frame.specs.Basic.{bodyLen, basicLen, fact2, fact3, fact4, fact5, basicFields}
 use Rattle.frame.specs.Ours.{fact6, fact7}
-use Rattle.frame.specs.declared.basic.Basic.{Basic}
-use Rattle.frame.specs.declared.basic.BasicRead.{BasicRead}
-use Rattle.frame.specs.declared.basic.BasicRead.the-variants as read
+use Rattle.frame.specs.declared.Basic.{Basic}
+use Rattle.frame.specs.declared.BasicRead.{BasicRead}
+use Rattle.frame.specs.declared.BasicRead.the-variants as read
 use Rattle.places.specs.Once.{noPlaces}
 use Rattle.places.specs.declared.Places.{Places}
 use Rattle.walk.specs.Walk.{walkOf}

@@ -1,8 +1,7 @@
 // What a received frame is refused for before the table is asked, facts 1 to 9: the time, the frame and its verdict.
 use facts::Check;
-use frame::basic;
-use frame::basic::Basic;
-use frame::basic::BasicRead;
+use frame::Basic;
+use frame::BasicRead;
 use frame::ours;
 use participant::Participant;
 use places::Places;
@@ -30,7 +29,7 @@ pub fn judge(p: Participant, time: u64, verdict: bool, frame: &[u8]) -> Judged
     let Check::Passed = facts::fail_if(time < p.clock) else {
         return Judged::Refused(1);
     };
-    let r = basic::read_basic(frame);
+    let r = frame::read_basic(frame);
     let BasicRead::Read(b) = r else {
         return Judged::Refused(number(r));
     };

@@ -5,7 +5,7 @@ use mathlib.Core.Bool.{true, not}
 use mathlib.Core.Logic.{⊎-elim}
 use mathlib.Core.List.{List, [], _∷_, List·Memᴰ, List·Memᴰ·head, List·Memᴰ·tail, List·Memᴰ·not-nil, List·Memᴰ·cases-cons}
 use borrow.Author.Tests.{not-true}
-use Rattle.members.specs.declared.mi.Mi.{Mi}
+use Rattle.members.specs.declared.Mi.{Mi}
 use Rattle.members.specs.Mi.{miSame}
 use Rattle.table.specs.declared.Peer.{Peer}
 use Rattle.table.specs.declared.Table.{Table}

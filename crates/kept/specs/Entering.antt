@@ -8,7 +8,7 @@ use lib.ListN.{length, take, set, replicate, length-set, length-append, length-t
 use lib.Seq.{set-append-left, take-set-lt, take-suc-set}
 use lib.Dec.{leb}
 use borrow.Author.Tests.{lt-ltb, le-ltb, leb-true, leb-false}
-use Rattle.members.specs.declared.mi.Mi.{Mi}
+use Rattle.members.specs.declared.Mi.{Mi}
 use Rattle.members.specs.Mi.{miSame}
 use Rattle.table.specs.declared.Peer.{Peer}
 use Rattle.table.specs.declared.Table.{Table}

@@ -1,6 +1,4 @@
 // A key's record of a port image, 28 octets.
-use members::mi;
-use octets::number;
 use packed::bit;
 use participant::Key;
 use participant::Slot;
@@ -21,13 +19,13 @@ fn put_key(out: &mut [u8], at: usize, k: Key)
     ensures { λ _. ⌜ now (out .exit) ≡ sets (now (out .entry)) at (keyOctets k) ⌝ }
 {
     let m = k.mi;
-    mi::put_mi(out, at, m);
-    number::put_u32(out, at + 12, k.kn);
-    number::put_octet(out, at + 16, k.an);
-    number::put_octet(out, at + 17, flags(k));
-    number::put_octet(out, at + 18, k.confidentiality);
-    number::put_octet(out, at + 19, 0);
-    number::put_u64(out, at + 20, k.suite);
+    members::put_mi(out, at, m);
+    octets::put_u32(out, at + 12, k.kn);
+    octets::put_octet(out, at + 16, k.an);
+    octets::put_octet(out, at + 17, flags(k));
+    octets::put_octet(out, at + 18, k.confidentiality);
+    octets::put_octet(out, at + 19, 0);
+    octets::put_u64(out, at + 20, k.suite);
 }
 
 // The key that a slot holds, if it holds one.
@@ -44,13 +42,13 @@ fn key_at(s: &[u8], at: usize) -> Key
     requires { ⌜ at < 2 ^ 33 ⌝ }
     ensures { λ r. ⌜ r ≡ keyAt (now (s .entry)) at ⌝ }
 {
-    let b = number::octet(s, at + 17);
+    let b = octets::octet(s, at + 17);
     Key {
-        mi: mi::mi_at(s, at),
-        kn: number::u32_at(s, at + 12),
-        suite: number::u64_at(s, at + 20),
-        an: number::octet(s, at + 16),
-        confidentiality: number::octet(s, at + 18),
+        mi: members::mi_at(s, at),
+        kn: octets::u32_at(s, at + 12),
+        suite: octets::u64_at(s, at + 20),
+        an: octets::octet(s, at + 16),
+        confidentiality: octets::octet(s, at + 18),
         receive: b & 1 == 1,
         transmit: (b >> 1) & 1 == 1,
     }
@@ -72,8 +70,8 @@ fn key_clean(s: &[u8], at: usize) -> bool
     requires { ⌜ at < 2 ^ 33 ⌝ }
     ensures { λ r. ⌜ r ≡ keyClean (now (s .entry)) at ⌝ }
 {
-    if number::octet(s, at + 17) < 4 {
-        return number::octet(s, at + 19) == 0;
+    if octets::octet(s, at + 17) < 4 {
+        return octets::octet(s, at + 19) == 0;
     }
     false
 }

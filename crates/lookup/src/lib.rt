@@ -1,6 +1,5 @@
 // Looking an identifier up in the table, once: what a call asks of it is asked of the answer.
-use members::mi;
-use members::mi::Mi;
+use members::Mi;
 use table::Peer;
 use table::ROOM;
 use table::Table;
@@ -23,7 +22,7 @@ pub fn look(t: Table, m: Mi) -> Held
     while i < n {
         let p = peers[i];
         let q = p.mi;
-        if mi::same_mi(m, q) {
+        if members::same_mi(m, q) {
             return Held::At(i, p);
         }
         i += 1;
@@ -37,7 +36,7 @@ pub fn first(at: usize, n: usize, i: usize, m: Mi, p: Peer) -> usize
 {
     if at == n {
         let q = p.mi;
-        if mi::same_mi(m, q) {
+        if members::same_mi(m, q) {
             return i;
         }
     }

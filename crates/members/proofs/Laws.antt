@@ -13,7 +13,7 @@ use lib.Dec.{ltb, lit≤}
 use Rattle.octets.specs.Number.{beAt, beOf}
 use Rattle.members.specs.Mi.{miAt, miOctets}
 use Rattle.members.specs.Entry.{cutAt, entryAt, entryOctets}
-use Rattle.members.specs.declared.mi.Mi.{Mi}
+use Rattle.members.specs.declared.Mi.{Mi}
 use Rattle.members.specs.declared.entry.Entry.{Entry}
 use Rattle.octets.proofs.Laws.{length-beOf, beAt-out}
 use Rattle.octets.proofs.Fields.{Stands, first, second, number-stands}

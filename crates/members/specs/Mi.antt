@@ -4,7 +4,7 @@ use mathlib.Core.List.{List, _++_}
 use mathlib.Core.Bool.{Bool, _&&_}
 use lib.Dec.{eqb}
 use Rattle.octets.specs.Number.{beAt, beOf}
-use Rattle.members.specs.declared.mi.Mi.{Mi}
+use Rattle.members.specs.declared.Mi.{Mi}
 
 -- The identifier that the 12 octets from `at` make.
 unfoldable pub miAt : List ℕ → ℕ → Mi

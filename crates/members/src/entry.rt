@@ -1,7 +1,5 @@
 // One entry of a peer list, and up to 16 of them.
-use crate::mi;
-use crate::mi::Mi;
-use octets::number;
+use crate::Mi;
 ghost use mathlib.Core.Path.{_≡_};
 ghost use Prim.Native.Nat.{_+_, _≤_};
 ghost use lib.ListN.{length};
@@ -47,8 +45,8 @@ fn across(s: &[u8], at: usize) -> Entry
         };
     }
     Entry {
-        mi: mi::mi_at(s, at),
-        mn: number::u32_at(s, at + 12),
+        mi: crate::mi_at(s, at),
+        mn: octets::u32_at(s, at + 12),
     }
 }
 
@@ -56,11 +54,11 @@ fn across(s: &[u8], at: usize) -> Entry
 fn mi_of(e: &[u8]) -> Mi
     ensures { λ r. ⌜ r ≡ miAt (now (e .entry)) 0 ⌝ }
 {
-    let high = number::u32_at(e, 0) as u64;
-    let low = number::u32_at(e, 4) as u64;
+    let high = octets::u32_at(e, 0) as u64;
+    let low = octets::u32_at(e, 4) as u64;
     Mi {
         hi: high * 4294967296 + low,
-        lo: number::u32_at(e, 8),
+        lo: octets::u32_at(e, 8),
     }
 }
 
@@ -76,7 +74,7 @@ pub fn entry_at(s: &[u8], at: usize) -> Entry
     let e = copied(s, at);
     Entry {
         mi: mi_of(&e),
-        mn: number::u32_at(&e, 12),
+        mn: octets::u32_at(&e, 12),
     }
 }
 
@@ -87,6 +85,6 @@ pub fn put_entry(out: &mut [u8], at: usize, e: Entry)
         return;
     }
     let m = e.mi;
-    mi::put_mi(out, at, m);
-    number::put_u32(out, at + 12, e.mn);
+    crate::put_mi(out, at, m);
+    octets::put_u32(out, at + 12, e.mn);
 }

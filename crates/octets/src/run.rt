@@ -1,5 +1,4 @@
 // Runs of octets: stored, and handed back.
-use crate::number;
 ghost use mathlib.Core.Path.{_≡_};
 ghost use lib.ListN.{replicate};
 ghost use lib.Seq.{sets};
@@ -13,7 +12,7 @@ pub fn put_all(out: &mut [u8], at: usize, src: &[u8])
     }
     let mut i = 0;
     while i < src.len() {
-        number::put_octet(out, at + i, src[i]);
+        crate::put_octet(out, at + i, src[i]);
         i += 1;
     }
 }
@@ -26,7 +25,7 @@ pub fn put_zeros(out: &mut [u8], at: usize, n: u16)
     }
     let mut i: u16 = 0;
     while i < n {
-        number::put_octet(out, at + i as usize, 0);
+        crate::put_octet(out, at + i as usize, 0);
         i += 1;
     }
 }

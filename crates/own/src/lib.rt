@@ -1,6 +1,4 @@
 // The own record of a port image, 116 octets, written and read at a place.
-use members::mi;
-use octets::number;
 use octets::run;
 use packed::bit;
 use participant::Participant;
@@ -17,23 +15,23 @@ fn put_named(out: &mut [u8], at: usize, p: Participant)
     ensures { λ _. ⌜ now (out .exit) ≡ sets (now (out .entry)) at (namedOctets p) ⌝ }
 {
     let m = p.mi;
-    mi::put_mi(out, at, m);
-    number::put_u32(out, at + 12, p.mn);
-    number::put_u64(out, at + 16, p.sci);
-    number::put_octet(out, at + 24, p.priority);
-    number::put_octet(out, at + 25, p.capability);
-    number::put_octet(out, at + 26, bit::bit_of(p.desired));
-    number::put_octet(out, at + 27, bit::bit_of(p.mark));
+    members::put_mi(out, at, m);
+    octets::put_u32(out, at + 12, p.mn);
+    octets::put_u64(out, at + 16, p.sci);
+    octets::put_octet(out, at + 24, p.priority);
+    octets::put_octet(out, at + 25, p.capability);
+    octets::put_octet(out, at + 26, bit::bit_of(p.desired));
+    octets::put_octet(out, at + 27, bit::bit_of(p.mark));
 }
 
 fn put_times(out: &mut [u8], at: usize, p: Participant)
     requires { ⌜ at < 2 ^ 33 ⌝ }
     ensures { λ _. ⌜ now (out .exit) ≡ sets (now (out .entry)) at (timesOctets p) ⌝ }
 {
-    number::put_u64(out, at, p.clock);
-    number::put_u64(out, at + 8, p.sent);
-    number::put_u32(out, at + 16, p.kn);
-    number::put_u64(out, at + 20, p.distributed);
+    octets::put_u64(out, at, p.clock);
+    octets::put_u64(out, at + 8, p.sent);
+    octets::put_u32(out, at + 16, p.kn);
+    octets::put_u64(out, at + 20, p.distributed);
 }
 
 fn put_kept(out: &mut [u8], at: usize, p: Participant)
@@ -42,7 +40,7 @@ fn put_kept(out: &mut [u8], at: usize, p: Participant)
 {
     let ckn = p.ckn;
     let wrapped = p.wrapped;
-    number::put_u32(out, at, facts::at_most(p.size, 32) as u32);
+    octets::put_u32(out, at, facts::at_most(p.size, 32) as u32);
     run::put_all(out, at + 4, &ckn);
     run::put_all(out, at + 36, &wrapped);
 }
@@ -77,18 +75,18 @@ pub fn own_at(s: &[u8], place: u32) -> Participant
 {
     let at = place as usize;
     Participant {
-        mi: mi::mi_at(s, at),
-        mn: number::u32_at(s, at + 12),
-        sci: number::u64_at(s, at + 16),
-        priority: number::octet(s, at + 24),
-        capability: number::octet(s, at + 25),
-        desired: number::octet(s, at + 26) == 1,
-        mark: number::octet(s, at + 27) == 1,
-        clock: number::u64_at(s, at + 28),
-        sent: number::u64_at(s, at + 36),
-        kn: number::u32_at(s, at + 44),
-        distributed: number::u64_at(s, at + 48),
-        size: number::u32_at(s, at + 56) as usize,
+        mi: members::mi_at(s, at),
+        mn: octets::u32_at(s, at + 12),
+        sci: octets::u64_at(s, at + 16),
+        priority: octets::octet(s, at + 24),
+        capability: octets::octet(s, at + 25),
+        desired: octets::octet(s, at + 26) == 1,
+        mark: octets::octet(s, at + 27) == 1,
+        clock: octets::u64_at(s, at + 28),
+        sent: octets::u64_at(s, at + 36),
+        kn: octets::u32_at(s, at + 44),
+        distributed: octets::u64_at(s, at + 48),
+        size: octets::u32_at(s, at + 56) as usize,
         ckn: ckn_at(s, at + 60),
         wrapped: wrapped_at(s, at + 92),
         table: table::empty(),
@@ -101,8 +99,8 @@ pub fn own_at(s: &[u8], place: u32) -> Participant
 pub fn own_clean(s: &[u8], at: u32) -> bool
     ensures { λ r. ⌜ r ≡ ownClean (now (s .entry)) at ⌝ }
 {
-    if number::octet(s, at as usize + 26) <= 1 {
-        return number::octet(s, at as usize + 27) <= 1;
+    if octets::octet(s, at as usize + 26) <= 1 {
+        return octets::octet(s, at as usize + 27) <= 1;
     }
     false
 }

@@ -1,5 +1,5 @@
 // A line of text by value, made part by part.
-use members::mi::Mi;
+use members::Mi;
 use octets::run;
 ghost use mathlib.Core.Path.{_≡_};
 ghost use Prim.Native.Nat.{_+_, _<_, _≤_, _^_};

@@ -1,6 +1,4 @@
 // A peer's record of a port image, 44 octets, and the peers' records one after the other.
-use members::mi;
-use octets::number;
 use packed::bit;
 use table::Peer;
 use table::ROOM;
@@ -25,14 +23,14 @@ fn put_peer(out: &mut [u8], at: usize, p: Peer)
     ensures { λ _. ⌜ now (out .exit) ≡ sets (now (out .entry)) at (peerOctets p) ⌝ }
 {
     let m = p.mi;
-    mi::put_mi(out, at, m);
-    number::put_u32(out, at + 12, p.mn);
-    number::put_u64(out, at + 16, p.sci);
-    number::put_octet(out, at + 24, p.priority);
-    number::put_octet(out, at + 25, flags(p));
-    number::put_u16(out, at + 26, 0);
-    number::put_u64(out, at + 28, p.accepted);
-    number::put_u64(out, at + 36, p.proof);
+    members::put_mi(out, at, m);
+    octets::put_u32(out, at + 12, p.mn);
+    octets::put_u64(out, at + 16, p.sci);
+    octets::put_octet(out, at + 24, p.priority);
+    octets::put_octet(out, at + 25, flags(p));
+    octets::put_u16(out, at + 26, 0);
+    octets::put_u64(out, at + 28, p.accepted);
+    octets::put_u64(out, at + 36, p.proof);
 }
 
 // The peers of a table, in its order.
@@ -53,14 +51,14 @@ fn peer_at(s: &[u8], at: usize) -> Peer
     requires { ⌜ at < 2 ^ 33 ⌝ }
     ensures { λ r. ⌜ r ≡ peerAt (now (s .entry)) at ⌝ }
 {
-    let b = number::octet(s, at + 25);
+    let b = octets::octet(s, at + 25);
     Peer {
-        mi: mi::mi_at(s, at),
-        mn: number::u32_at(s, at + 12),
-        sci: number::u64_at(s, at + 16),
-        accepted: number::u64_at(s, at + 28),
-        proof: number::u64_at(s, at + 36),
-        priority: number::octet(s, at + 24),
+        mi: members::mi_at(s, at),
+        mn: octets::u32_at(s, at + 12),
+        sci: octets::u64_at(s, at + 16),
+        accepted: octets::u64_at(s, at + 28),
+        proof: octets::u64_at(s, at + 36),
+        priority: octets::octet(s, at + 24),
         capability: (b >> 4) & 3,
         server: (b >> 1) & 1 == 1,
         desired: (b >> 2) & 1 == 1,
@@ -90,14 +88,14 @@ fn peer_clean(s: &[u8], at: usize) -> bool
     requires { ⌜ at < 2 ^ 33 ⌝ }
     ensures { λ r. ⌜ r ≡ peerClean (now (s .entry)) at ⌝ }
 {
-    let b = number::octet(s, at + 25);
+    let b = octets::octet(s, at + 25);
     if (b >> 3) & 1 != 0 {
         return false;
     }
     if b >> 6 != 0 {
         return false;
     }
-    number::u16_at(s, at + 26) == 0
+    octets::u16_at(s, at + 26) == 0
 }
 
 pub fn peers_clean(s: &[u8], at: u32, n: u16) -> bool

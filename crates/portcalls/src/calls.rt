@@ -8,8 +8,6 @@ use crate::status;
 use changes::renew;
 use changes::report;
 use changes::tick;
-use members::mi;
-use octets::number;
 use octets::run;
 use participant::Participant;
 use participant::call::Answer;
@@ -30,7 +28,7 @@ fn shaped(op: u8, d: &[u8]) -> bool {
         5 => n == 8,
         6 => n == 20,
         7 => {
-            let what = number::octet(d, 0);
+            let what = octets::octet(d, 0);
             if n != 17 {
                 return false;
             }
@@ -56,7 +54,7 @@ fn rest(d: &[u8], at: usize) -> &[u8] {
 fn room_at(d: &[u8], at: usize) -> usize
     ensures { λ r. ⌜ r ≤ 2048 ⌝ }
 {
-    facts::at_most(number::u16_at(d, at) as usize, 2048)
+    facts::at_most(octets::u16_at(d, at) as usize, 2048)
 }
 
 fn octets(out: &mut [u8], word: &[u8], s: &[u8], len: usize) -> usize {
@@ -88,14 +86,14 @@ fn called(r: Called, out: &mut [u8], word: &[u8]) -> Played {
 }
 
 fn make(s: State, d: &[u8], out: &mut [u8]) -> Played {
-    let m = mi::mi_at(d, 8);
-    let desired = number::octet(d, 30) != 0;
+    let m = members::mi_at(d, 8);
+    let desired = octets::octet(d, 30) != 0;
     let r = creation::create(
-        number::u64_at(d, 0),
+        octets::u64_at(d, 0),
         m,
-        number::u64_at(d, 20),
-        number::octet(d, 28),
-        number::octet(d, 29),
+        octets::u64_at(d, 20),
+        octets::octet(d, 28),
+        octets::octet(d, 29),
         desired,
         rest(d, 31),
     );
@@ -117,8 +115,8 @@ fn heard(a: Heard, out: &mut [u8]) -> usize {
 fn hear(p: Participant, d: &[u8], out: &mut [u8]) -> Played {
     let r = receive::receive(
         p,
-        number::u64_at(d, 0),
-        number::octet(d, 8) != 0,
+        octets::u64_at(d, 0),
+        octets::octet(d, 8) != 0,
         rest(d, 9),
     );
     let a = r.answer;
@@ -139,9 +137,9 @@ fn say(p: Participant, d: &[u8], out: &mut [u8]) -> Played {
     let room = room_at(d, 8);
     let r = send::send(
         p,
-        number::u64_at(d, 0),
-        number::u32_at(d, 10),
-        number::u32_at(d, 14),
+        octets::u64_at(d, 0),
+        octets::u32_at(d, 10),
+        octets::u32_at(d, 14),
         &mut frame[..room],
     );
     let a = r.answer;
@@ -164,21 +162,21 @@ fn handed(r: Called, out: &mut [u8]) -> usize {
 }
 
 fn hand_out(p: Participant, d: &[u8], out: &mut [u8]) -> Played {
-    let r = distribute::distribute(p, number::u64_at(d, 0), rest(d, 8));
+    let r = distribute::distribute(p, octets::u64_at(d, 0), rest(d, 8));
     let n = handed(r, out);
     let q = r.participant;
     state::with(q, n)
 }
 
 fn install(p: Participant, d: &[u8], out: &mut [u8]) -> Played {
-    let m = mi::mi_at(d, 1);
-    let r = report::report(p, m, number::u32_at(d, 13), number::octet(d, 0) == 2);
+    let m = members::mi_at(d, 1);
+    let r = report::report(p, m, octets::u32_at(d, 13), octets::octet(d, 0) == 2);
     called(r, out, b"reported\n")
 }
 
 fn rename(p: Participant, d: &[u8], out: &mut [u8]) -> Played {
-    let m = mi::mi_at(d, 8);
-    let r = renew::new_mi(p, number::u64_at(d, 0), m);
+    let m = members::mi_at(d, 8);
+    let r = renew::new_mi(p, octets::u64_at(d, 0), m);
     called(r, out, b"renewed\n")
 }
 
@@ -203,7 +201,7 @@ fn act(p: Participant, op: u8, d: &[u8], out: &mut [u8]) -> Played {
         2 => hear(p, d, out),
         3 => say(p, d, out),
         4 => hand_out(p, d, out),
-        5 => called(tick::tick(p, number::u64_at(d, 0)), out, b"ticked\n"),
+        5 => called(tick::tick(p, octets::u64_at(d, 0)), out, b"ticked\n"),
         6 => rename(p, d, out),
         7 => install(p, d, out),
         8 => {

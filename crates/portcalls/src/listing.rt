@@ -1,15 +1,13 @@
 // The sets of a frame, as words.
 use crate::print;
-use frame::basic;
-use frame::basic::BasicRead;
+use frame::BasicRead;
 use members::entry;
+use sets::Set;
+use sets::SetRead;
 use sets::kinds;
 use sets::kinds::KeyUse;
 use sets::kinds::Kind;
 use sets::kinds::SakHeader;
-use sets::set;
-use sets::set::Set;
-use sets::set::SetRead;
 
 fn number(r: BasicRead) -> u8 {
     match r {
@@ -89,14 +87,14 @@ fn word(out: &mut [u8], at: usize, frame: &[u8], s: Set) -> usize {
             if frame.len() < place {
                 return n;
             }
-            entries(out, n, frame, place + 4, set::list_len(t, len))
+            entries(out, n, frame, place + 4, sets::list_len(t, len))
         }
     }
 }
 
 // Op 11's line.
 pub(crate) fn line(out: &mut [u8], frame: &[u8]) -> usize {
-    let r = basic::read_basic(frame);
+    let r = frame::read_basic(frame);
     let BasicRead::Read(b) = r else {
         return print::refused(out, 0, number(r));
     };
@@ -105,7 +103,7 @@ pub(crate) fn line(out: &mut [u8], frame: &[u8]) -> usize {
     let mut seen = places::none();
     let mut n = print::words(out, 0, b"sets");
     while at < stop {
-        let SetRead::Good(s) = set::set_at(frame, at, stop, seen) else {
+        let SetRead::Good(s) = sets::set_at(frame, at, stop, seen) else {
             n = print::words(out, n, b" bad");
             n = print::after(out, n, b'@', at as u64);
             return print::put(out, n, b'\n');
@@ -114,7 +112,7 @@ pub(crate) fn line(out: &mut [u8], frame: &[u8]) -> usize {
         let t = kinds::type_of(k);
         n = word(out, n, frame, s);
         seen = places::with(seen, t, at, s.len);
-        at += set::extent(t, s.len);
+        at += sets::extent(t, s.len);
     }
     print::words(out, n, b" end\n")
 }

@@ -3,7 +3,6 @@ use crate::state::Played;
 use crate::state::State;
 use libc::STDIN_FILENO;
 use libc::STDOUT_FILENO;
-use octets::number;
 
 mod calls;
 mod listing;
@@ -27,8 +26,8 @@ fn step(s: State, space: &mut [u8], out: &mut [u8]) -> Played {
     if got < 3 {
         return state::malformed(s, out);
     }
-    let op = number::octet(&head, 0);
-    let n = number::u16_at(&head, 1) as usize;
+    let op = octets::octet(&head, 0);
+    let n = octets::u16_at(&head, 1) as usize;
     if space.len() < n {
         return state::malformed(s, out);
     }

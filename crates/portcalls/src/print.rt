@@ -1,6 +1,5 @@
 // Text into a buffer, from a place on; each answers the next place.
-use members::mi::Mi;
-use octets::number;
+use members::Mi;
 use page::line::Line;
 
 pub(crate) fn put(out: &mut [u8], at: usize, x: u8) -> usize {
@@ -72,7 +71,7 @@ pub(crate) fn octets(out: &mut [u8], at: usize, s: &[u8], len: usize) -> usize {
     let mut n = at;
     let mut i = 0;
     while i < len {
-        n = hex(out, n, number::octet(s, i) as u64, 2);
+        n = hex(out, n, octets::octet(s, i) as u64, 2);
         i += 1;
     }
     n

@@ -1,6 +1,6 @@
 // The participant that a script works on, if a create has succeeded, and what a record's playing gives.
 use crate::print;
-use members::mi::Mi;
+use members::Mi;
 use participant::Participant;
 use participant::call::Called;
 

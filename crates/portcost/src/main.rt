@@ -1,7 +1,6 @@
 // What a call costs: makes a participant by the first calls of a script, plays its last call n times, and prints a check line.
 use libc::STDIN_FILENO;
 use libc::STDOUT_FILENO;
-use octets::number;
 use octets::run;
 
 mod play;
@@ -20,8 +19,8 @@ fn cost(script: &[u8]) {
     let mut p = setup::nobody();
     let mut at: usize = 0;
     while at < script.len() {
-        let op = number::octet(script, at);
-        let n = number::u16_at(script, at + 1) as usize;
+        let op = octets::octet(script, at);
+        let n = octets::u16_at(script, at + 1) as usize;
         let d = run::part(script, at + 3, n);
         if op == 12 {
             say(play::often(p, d));

@@ -1,6 +1,5 @@
 // One call, played again and again on the same participant. What comes back goes into a sum, so that no play is idle.
 use crate::setup;
-use octets::number;
 use octets::run;
 use participant::Participant;
 use participant::call::Answer;
@@ -95,9 +94,9 @@ fn read_often(p: Participant, n: u32) -> u64 {
 
 // `d` is n, an op, and its payload; a frame's verdict is yes, an image that is read is the participant's own.
 pub(crate) fn often(p: Participant, d: &[u8]) -> u64 {
-    let n = number::u32_at(d, 0);
-    let time = number::u64_at(d, 5);
-    match number::octet(d, 4) {
+    let n = octets::u32_at(d, 0);
+    let time = octets::u64_at(d, 5);
+    match octets::octet(d, 4) {
         2 => hear_often(p, n, time, setup::rest(d, 14)),
         9 => save_often(p, n),
         10 => read_often(p, n),

@@ -1,7 +1,5 @@
 // The calls that make the participant. Each payload is that of a call script's record; a send has room enough.
-use members::mi;
-use members::mi::Mi;
-use octets::number;
+use members::Mi;
 use octets::run;
 use participant::Participant;
 
@@ -17,12 +15,12 @@ pub(crate) fn rest(d: &[u8], at: usize) -> &[u8] {
 
 fn make(d: &[u8]) -> Participant {
     let r = creation::create(
-        number::u64_at(d, 0),
-        mi::mi_at(d, 8),
-        number::u64_at(d, 20),
-        number::octet(d, 28),
-        number::octet(d, 29),
-        number::octet(d, 30) != 0,
+        octets::u64_at(d, 0),
+        members::mi_at(d, 8),
+        octets::u64_at(d, 20),
+        octets::octet(d, 28),
+        octets::octet(d, 29),
+        octets::octet(d, 30) != 0,
         rest(d, 31),
     );
     r.participant
@@ -32,17 +30,17 @@ pub(crate) fn called(p: Participant, op: u8, d: &[u8]) -> Participant {
     match op {
         1 => make(d),
         2 => {
-            let verdict = number::octet(d, 8) != 0;
-            let r = receive::receive(p, number::u64_at(d, 0), verdict, rest(d, 9));
+            let verdict = octets::octet(d, 8) != 0;
+            let r = receive::receive(p, octets::u64_at(d, 0), verdict, rest(d, 9));
             r.participant
         }
         3 => {
             let mut out = [0u8; 2048];
-            let r = send::send(p, number::u64_at(d, 0), 1, 1, &mut out);
+            let r = send::send(p, octets::u64_at(d, 0), 1, 1, &mut out);
             r.participant
         }
         4 => {
-            let r = distribute::distribute(p, number::u64_at(d, 0), rest(d, 8));
+            let r = distribute::distribute(p, octets::u64_at(d, 0), rest(d, 8));
             r.participant
         }
         _ => p,

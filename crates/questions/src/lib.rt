@@ -1,7 +1,7 @@
 // The questions, which go by the clock and change nothing.
 use election::Rank;
 use election::Server;
-use members::mi::Mi;
+use members::Mi;
 use participant::Participant;
 ghost use mathlib.Core.Path.{_≡_};
 ghost use Rattle.counts.specs.Counts.{liveCount, potentialCount};

@@ -8,7 +8,7 @@ use lib.Dec.{eqb}
 use borrow.Author.Tests.{le-leb, lt-ltb, eqb-true, ne-eqb, not-false}
 use Rattle.octets.proofs.Laws.{Octets}
 use Rattle.members.specs.Mi.{miSame}
-use Rattle.members.specs.declared.mi.Mi.{Mi}
+use Rattle.members.specs.declared.Mi.{Mi}
 use Rattle.members.proofs.Laws.{Fitting}
 use Rattle.sets.proofs.Laws.{or-false}
 use Rattle.lists.specs.Laws.{by-cases, clash, both, first-of, second-of}

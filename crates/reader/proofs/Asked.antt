@@ -11,14 +11,14 @@ use borrow.Author.Tests.{le-leb, leb-true, leb-false, eqb-false}
 use denote.Ref.{RefT, now}
 use Rattle.facts.specs.Facts.{firstOf}
 use Rattle.frame.specs.Basic.{bodyLen, basicLen, basicFields, basicFacts, basicOf}
-use Rattle.frame.specs.declared.basic.Basic.{Basic}
-use Rattle.frame.specs.declared.basic.BasicRead.{BasicRead}
-use Rattle.frame.specs.declared.basic.BasicRead.the-variants.{Read, Refused as Unread}
+use Rattle.frame.specs.declared.Basic.{Basic}
+use Rattle.frame.specs.declared.BasicRead.{BasicRead}
+use Rattle.frame.specs.declared.BasicRead.the-variants.{Read, Refused as Unread}
 use Rattle.sets.specs.Kinds.{typeOf}
 use Rattle.places.specs.Once.{noPlaces, placesWith}
 use Rattle.sets.specs.Set.{lenAt, badSet, setFields, extentOf}
 use Rattle.places.specs.declared.Places.{Places}
-use Rattle.sets.specs.declared.set.Set.{Set}
+use Rattle.sets.specs.declared.Set.{Set}
 use Rattle.sets.proofs.Laws.{type-kind, extent-least}
 use Rattle.walk.specs.Walk.{nextAt, placesAfter, walkGo, walkFrom, walkOf}
 use Rattle.walk.specs.declared.Walked.{Walked}

@@ -8,8 +8,8 @@ use Rattle.sets.specs.Kinds.{typeOf}
 use Rattle.places.specs.Once.{placesWith}
 use Rattle.sets.specs.Set.{badSet, setFields, setOf, extentOf}
 use Rattle.places.specs.declared.Places.{Places}
-use Rattle.sets.specs.declared.set.Set.{Set}
-use Rattle.sets.specs.declared.set.SetRead.the-variants.{Good, Bad as Wrong}
+use Rattle.sets.specs.declared.Set.{Set}
+use Rattle.sets.specs.declared.SetRead.the-variants.{Good, Bad as Wrong}
 use Rattle.sets.proofs.Laws as rules
 use Rattle.walk.specs.Walk.{nextAt, placesAfter}
 use Rattle.reader.specs.Reader.{passedOf, stays, stepOf}

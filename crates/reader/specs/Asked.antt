@@ -5,13 +5,13 @@ use mathlib.Core.List.{[], _∷_}
 use mathlib.Core.Bool.{cond}
 use lib.Dec.{leb}
 use Rattle.frame.specs.Basic.{basicOf}
-use Rattle.frame.specs.declared.basic.BasicRead.{BasicRead}
-use Rattle.frame.specs.declared.basic.BasicRead.the-variants.{Read, Refused as Unread}
+use Rattle.frame.specs.declared.BasicRead.{BasicRead}
+use Rattle.frame.specs.declared.BasicRead.the-variants.{Read, Refused as Unread}
 use Rattle.sets.specs.Kinds.{typeOf}
 use Rattle.places.specs.Once.{noPlaces, placesWith}
 use Rattle.sets.specs.Set.{badSet, setFields, extentOf}
 use Rattle.places.specs.declared.Places.{Places}
-use Rattle.sets.specs.declared.set.Set.{Set}
+use Rattle.sets.specs.declared.Set.{Set}
 use Rattle.walk.specs.Walk.{nextAt, placesAfter, walkOf}
 use Rattle.walk.specs.declared.Walked.{Walked}
 use Rattle.walk.specs.declared.Walked.the-variants.{End as Ended, Bad as Stopped}

@@ -5,9 +5,9 @@ use mathlib.Core.Bool.{cond}
 use lib.Dec.{leb, eqb}
 use denote.Ref.{RefT, now}
 use Rattle.frame.specs.Basic.{basicOf}
-use Rattle.frame.specs.declared.basic.Basic.{Basic}
-use Rattle.frame.specs.declared.basic.BasicRead.{BasicRead}
-use Rattle.frame.specs.declared.basic.BasicRead.the-variants.{Read, Refused as Unread}
+use Rattle.frame.specs.declared.Basic.{Basic}
+use Rattle.frame.specs.declared.BasicRead.{BasicRead}
+use Rattle.frame.specs.declared.BasicRead.the-variants.{Read, Refused as Unread}
 use Rattle.places.specs.Once.{noPlaces}
 use Rattle.sets.specs.Set.{badSet, setFields}
 use Rattle.walk.specs.Walk.{nextAt, placesAfter}

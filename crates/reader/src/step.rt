@@ -1,11 +1,9 @@
 // One step over the sets of a frame, by value: what is read at a position, and the position after it.
-use frame::basic;
-use frame::basic::BasicRead;
+use frame::BasicRead;
 use places::Places;
+use sets::Set;
+use sets::SetRead;
 use sets::kinds;
-use sets::set;
-use sets::set::Set;
-use sets::set::SetRead;
 ghost use mathlib.Core.Path.{_≡_};
 ghost use Rattle.reader.specs.Reader.{startOf, stepOf};
 
@@ -35,7 +33,7 @@ pub struct Stepped {
 pub fn start(frame: &[u8]) -> Position
     ensures { λ r. ⌜ r ≡ startOf (now (frame .entry)) ⌝ }
 {
-    match basic::read_basic(frame) {
+    match frame::read_basic(frame) {
         BasicRead::Read(b) => Position {
             refused: 0,
             at: b.next,
@@ -70,7 +68,7 @@ pub fn step(frame: &[u8], p: Position) -> Stepped
             after: p,
         };
     }
-    let SetRead::Good(set) = set::set_at(frame, at, stop, seen) else {
+    let SetRead::Good(set) = sets::set_at(frame, at, stop, seen) else {
         return Stepped {
             next: Next::Bad(at),
             after: p,
@@ -82,7 +80,7 @@ pub fn step(frame: &[u8], p: Position) -> Stepped
         next: Next::Set(set),
         after: Position {
             refused: 0,
-            at: at + set::extent(t, set.len),
+            at: at + sets::extent(t, set.len),
             stop,
             seen: places::with(seen, t, at, set.len),
         },

@@ -6,7 +6,7 @@ use mathlib.Core.List.{List, [], _∷_, _++_}
 use native.Mathlib.Omega.{arith}
 use lib.Dec.{eqb}
 use Rattle.facts.specs.Facts.{firstOf}
-use Rattle.frame.specs.declared.basic.Basic.{Basic}
+use Rattle.frame.specs.declared.Basic.{Basic}
 use Rattle.places.specs.declared.Places.{Places}
 use Rattle.participant.specs.declared.Participant.{Participant}
 use Rattle.judge.specs.Judge.{basicIn, walkIn, placesIn, frameFacts, judgedOf}

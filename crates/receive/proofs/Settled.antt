@@ -5,8 +5,8 @@ use mathlib.Core.Bool.{Bool, true, false, _||_}
 use mathlib.Core.List.{List}
 use lib.ListN.{set}
 use Rattle.members.specs.Mi.{miSame}
-use Rattle.members.specs.declared.mi.Mi.{Mi}
-use Rattle.frame.specs.declared.basic.Basic.{Basic}
+use Rattle.members.specs.declared.Mi.{Mi}
+use Rattle.frame.specs.declared.Basic.{Basic}
 use Rattle.places.specs.declared.Spot.{Spot}
 use Rattle.places.specs.declared.Places.{Places}
 use Rattle.table.specs.Table.{entries}

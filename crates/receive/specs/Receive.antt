@@ -5,7 +5,7 @@ use mathlib.Core.List.{List, [], _∷_, _++_}
 use lib.Dec.{eqb}
 use Rattle.facts.specs.Facts.{firstOf}
 use Rattle.members.specs.Mi.{miSame}
-use Rattle.frame.specs.declared.basic.Basic.{Basic}
+use Rattle.frame.specs.declared.Basic.{Basic}
 use Rattle.places.specs.declared.Places.{Places}
 use Rattle.lookup.specs.Look.{heldIn, staleFor, noRoomFor, becomesLive}
 use Rattle.enter.specs.Enter.{enteredAt}

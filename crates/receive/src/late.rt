@@ -1,7 +1,7 @@
 // A frame at whose time something of the table expires: the table is made anew first.
 use crate::Received;
 use facts::Check;
-use frame::basic::Basic;
+use frame::Basic;
 use hearing::proof;
 use lookup::Held;
 use participant::Participant;

@@ -1,12 +1,11 @@
 // Receiving a frame: what an accepted one makes of the participant, and refusals 1 to 12.
 use enter::Heard;
 use facts::Check;
-use frame::basic::Basic;
+use frame::Basic;
 use hearing::keys;
 use hearing::proof;
 use judge::Judged;
-use members::mi;
-use members::mi::Mi;
+use members::Mi;
 use participant::Participant;
 use places::Spot;
 use table::ROOM;
@@ -117,7 +116,7 @@ pub fn receive(p: Participant, time: u64, verdict: bool, frame: &[u8]) -> Receiv
     };
     let own = p.mi;
     let m = b.mi;
-    let Check::Passed = facts::fail_if(mi::same_mi(own, m)) else {
+    let Check::Passed = facts::fail_if(members::same_mi(own, m)) else {
         return refused(p, 10);
     };
     let mut t = p.table;

@@ -9,7 +9,7 @@ use Rattle.facts.specs.Facts.{paddedOf}
 use Rattle.members.specs.Entry.{entriesOf}
 use Rattle.members.specs.declared.entry.Entry.{Entry}
 use Rattle.members.proofs.Laws.{Fitting}
-use Rattle.frame.specs.declared.basic.Basic.{Basic}
+use Rattle.frame.specs.declared.Basic.{Basic}
 use Rattle.places.specs.Once.{absentSpot, spotAt}
 use Rattle.places.specs.declared.Spot.{Spot}
 use Rattle.places.specs.declared.Places.{Places}

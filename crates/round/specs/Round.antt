@@ -18,7 +18,7 @@ use Rattle.packed.specs.Used.{usedOctet}
 use Rattle.packed.specs.Sak.{sakOctet}
 use Rattle.frame.specs.Basic.{basicOf}
 use Rattle.frame.specs.Ours.{sameAt, fact6, fact7}
-use Rattle.frame.specs.declared.basic.BasicRead.the-variants.{Read}
+use Rattle.frame.specs.declared.BasicRead.the-variants.{Read}
 use Rattle.sets.specs.Kinds.{sakUseAt, sakAt}
 use Rattle.places.specs.Once.{absentSpot, noPlaces, holds, placesWith}
 use Rattle.sets.specs.Set.{listLen, badBody}

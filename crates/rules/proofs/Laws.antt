@@ -7,7 +7,7 @@ use native.Mathlib.Numerals.{add-one}
 use lib.ListN.{length, getD, drop}
 use lib.Seq.{drop-cons}
 use lib.Dec.{eqb}
-use Rattle.members.specs.declared.mi.Mi.{Mi}
+use Rattle.members.specs.declared.Mi.{Mi}
 use Rattle.members.specs.Mi.{miSame}
 use Rattle.table.specs.declared.Peer.{Peer}
 use Rattle.table.specs.declared.Table.{Table}

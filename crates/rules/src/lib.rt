@@ -1,6 +1,5 @@
 // The rules of a well-formed image that its participant shows.
-use members::mi;
-use members::mi::Mi;
+use members::Mi;
 use participant::Key;
 use participant::Participant;
 use participant::Slot;
@@ -124,7 +123,7 @@ fn peer_good(own: Mi, clock: u64, q: Peer) -> bool
     if q.mn == 0 {
         return false;
     }
-    !mi::same_mi(own, m)
+    !members::same_mi(own, m)
 }
 
 // Whether none of the entries from a place on has this identifier.
@@ -137,7 +136,7 @@ fn absent_from(t: Table, from: usize, m: Mi) -> bool
     while i < n {
         let q = peers[i];
         let x = q.mi;
-        if mi::same_mi(m, x) {
+        if members::same_mi(m, x) {
             return false;
         }
         i += 1;
@@ -181,7 +180,7 @@ fn number_good(own: Mi, kn: u32, k: Key) -> bool
     if k.kn == 0 {
         return false;
     }
-    if mi::same_mi(own, m) {
+    if members::same_mi(own, m) {
         return k.kn <= kn;
     }
     true

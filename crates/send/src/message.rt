@@ -1,6 +1,6 @@
 // What the next frame says.
 use election::Server;
-use members::mi::Mi;
+use members::Mi;
 use participant::Participant;
 use participant::Slot;
 use participant::keys;

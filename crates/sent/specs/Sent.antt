@@ -7,7 +7,7 @@ use lib.ListN.{length}
 use Rattle.facts.specs.Facts.{firstOf}
 use Rattle.octets.specs.Run.{partOf}
 use Rattle.frame.specs.Basic.{basicOf}
-use Rattle.frame.specs.declared.basic.BasicRead.the-variants.{Read}
+use Rattle.frame.specs.declared.BasicRead.the-variants.{Read}
 use Rattle.sets.specs.Kinds.{sakUseAt, sakAt}
 use Rattle.walk.specs.List.{listAt}
 use Rattle.walk.specs.Walk.{walkOf}

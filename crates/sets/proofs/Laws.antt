@@ -13,8 +13,8 @@ use Rattle.octets.proofs.Laws.{Octets}
 use Rattle.sets.specs.Kinds.{kindAt, typeOf}
 use Rattle.sets.specs.Set.{lenAt, listLen, badBody, badHead, badSet, setFields, setAnswer, headOf, setOf, extentOf}
 use Rattle.places.specs.declared.Places.{Places}
-use Rattle.sets.specs.declared.set.Set.{Set}
-use Rattle.sets.specs.declared.set.SetRead.the-variants.{Good, Bad}
+use Rattle.sets.specs.declared.Set.{Set}
+use Rattle.sets.specs.declared.SetRead.the-variants.{Good, Bad}
 use Rattle.sets.specs.declared.kinds.Kind.{Kind}
 
 not-not : (b : Bool) → not (not b) ≡ b

@@ -9,9 +9,9 @@ use Rattle.octets.specs.Number.{beAt}
 use Rattle.sets.specs.Kinds.{kindAt}
 use Rattle.places.specs.Once.{holds}
 use Rattle.places.specs.declared.Places.{Places}
-use Rattle.sets.specs.declared.set.Set.{Set}
-use Rattle.sets.specs.declared.set.SetRead.{SetRead}
-use Rattle.sets.specs.declared.set.SetRead.the-variants.{Good, Bad}
+use Rattle.sets.specs.declared.Set.{Set}
+use Rattle.sets.specs.declared.SetRead.{SetRead}
+use Rattle.sets.specs.declared.SetRead.the-variants.{Good, Bad}
 
 -- "type; an octet of the type's own; one whose low four bits are the length's high bits; its low eight bits"
 unfoldable pub lenAt : List ℕ → ℕ → ℕ

@@ -1,7 +1,5 @@
 // What a set of each kind says.
-use members::mi;
-use members::mi::Mi;
-use octets::number;
+use members::Mi;
 use packed::used::KeyFlags;
 ghost use mathlib.Core.Path.{_≡_};
 ghost use Prim.Native.Nat.{_+_, _<_, _^_};
@@ -51,9 +49,9 @@ fn key_use(frame: &[u8], at: usize, f: KeyFlags) -> KeyUse
         an: f.an,
         transmit: f.transmit,
         receive: f.receive,
-        mi: mi::mi_at(frame, at),
-        kn: number::u32_at(frame, at + 12),
-        pn: number::u32_at(frame, at + 16),
+        mi: members::mi_at(frame, at),
+        kn: octets::u32_at(frame, at + 12),
+        pn: octets::u32_at(frame, at + 16),
     }
 }
 
@@ -61,7 +59,7 @@ fn sak_use(frame: &[u8], at: usize) -> SakUse
     requires { ⌜ at < 2 ^ 63 ⌝ }
     ensures { λ r. ⌜ r ≡ sakUseAt (now (frame .entry)) at ⌝ }
 {
-    let u = packed::used::unpack(number::octet(frame, at + 1));
+    let u = packed::used::unpack(octets::octet(frame, at + 1));
     let latest = u.latest;
     let old = u.old;
     SakUse {
@@ -74,8 +72,8 @@ fn sak_header(frame: &[u8], at: usize, len: u16) -> SakHeader
     requires { ⌜ at < 2 ^ 63 ⌝ }
     ensures { λ r. ⌜ r ≡ sakAt (now (frame .entry)) at len ⌝ }
 {
-    let f = packed::sak::unpack(number::octet(frame, at + 1));
-    let kn = number::u32_at(frame, at + 4);
+    let f = packed::sak::unpack(octets::octet(frame, at + 1));
+    let kn = octets::u32_at(frame, at + 4);
     if len == 28 {
         return SakHeader {
             an: f.an,
@@ -90,7 +88,7 @@ fn sak_header(frame: &[u8], at: usize, len: u16) -> SakHeader
         an: f.an,
         confidentiality: f.confidentiality,
         kn,
-        suite: number::u64_at(frame, at + 8),
+        suite: octets::u64_at(frame, at + 8),
         place: at + 16,
         len: facts::less(len as usize, 12),
     }

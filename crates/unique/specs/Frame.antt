@@ -2,8 +2,8 @@
 use Rattle.frame.proofs as frame
 use Rattle.unique.specs.Law.{OneAnswer, same}
 
-pub frame·basic·read-basic : OneAnswer frame.basic.read_basic.Kinds.ps frame.basic.read_basic.Kinds.r frame.basic.read_basic.Reads.Learnt
-frame·basic·read-basic κs a z z′ e e′ h h′ = same h h′
+pub frame·read-basic : OneAnswer frame.read_basic.Kinds.ps frame.read_basic.Kinds.r frame.read_basic.Reads.Learnt
+frame·read-basic κs a z z′ e e′ h h′ = same h h′
 
 pub frame·ours·name-ours : OneAnswer frame.ours.name_ours.Kinds.ps frame.ours.name_ours.Kinds.r frame.ours.name_ours.Reads.Learnt
 frame·ours·name-ours κs a z z′ e e′ h h′ = same h h′

@@ -9,11 +9,11 @@ members·entry·entry-at κs a z z′ e e′ h h′ = same h h′
 pub members·entry·put-entry : OneSeen members.entry.put_entry.Kinds.ps members.entry.put_entry.Kinds.r members.entry.put_entry.Reads.Learnt (λ κs z e. now (e .0))
 members·entry·put-entry κs a z z′ e e′ h h′ = same h h′
 
-pub members·mi·mi-at : OneAnswer members.mi.mi_at.Kinds.ps members.mi.mi_at.Kinds.r members.mi.mi_at.Reads.Learnt
-members·mi·mi-at κs a z z′ e e′ h h′ = same h h′
+pub members·mi-at : OneAnswer members.mi_at.Kinds.ps members.mi_at.Kinds.r members.mi_at.Reads.Learnt
+members·mi-at κs a z z′ e e′ h h′ = same h h′
 
-pub members·mi·put-mi : OneSeen members.mi.put_mi.Kinds.ps members.mi.put_mi.Kinds.r members.mi.put_mi.Reads.Learnt (λ κs z e. now (e .0))
-members·mi·put-mi κs a z z′ e e′ h h′ = same h h′
+pub members·put-mi : OneSeen members.put_mi.Kinds.ps members.put_mi.Kinds.r members.put_mi.Reads.Learnt (λ κs z e. now (e .0))
+members·put-mi κs a z z′ e e′ h h′ = same h h′
 
-pub members·mi·same-mi : OneAnswer members.mi.same_mi.Kinds.ps members.mi.same_mi.Kinds.r members.mi.same_mi.Reads.Learnt
-members·mi·same-mi κs a z z′ e e′ h h′ = same h h′
+pub members·same-mi : OneAnswer members.same_mi.Kinds.ps members.same_mi.Kinds.r members.same_mi.Reads.Learnt
+members·same-mi κs a z z′ e e′ h h′ = same h h′

@@ -9,7 +9,7 @@ use lib.ListN.{length, getD, drop, drop-of-length-le}
 use lib.Seq.{drop-cons}
 use Rattle.members.specs.Mi.{miSame}
 use Rattle.members.specs.Entry.{entryAt}
-use Rattle.members.specs.declared.mi.Mi.{Mi}
+use Rattle.members.specs.declared.Mi.{Mi}
 use Rattle.members.specs.declared.entry.Entry.{Entry}
 use Rattle.walk.specs.List.{entriesFrom, seek}
 use Rattle.walk.specs.declared.list.Found.the-variants.{At, Nothing}

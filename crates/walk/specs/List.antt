@@ -7,7 +7,7 @@ use lib.ListN.{length, drop}
 use lib.Dec.{ltb}
 use Rattle.members.specs.Mi.{miSame}
 use Rattle.members.specs.Entry.{entryAt}
-use Rattle.members.specs.declared.mi.Mi.{Mi}
+use Rattle.members.specs.declared.Mi.{Mi}
 use Rattle.members.specs.declared.entry.Entry.{Entry}
 use Rattle.walk.specs.declared.list.Found.{Found}
 use Rattle.walk.specs.declared.list.Found.the-variants.{At, Nothing}

@@ -1,8 +1,7 @@
 // The walk over the further sets of a frame, and the search of a peer list.
 use places::Places;
+use sets::SetRead;
 use sets::kinds;
-use sets::set;
-use sets::set::SetRead;
 ghost use mathlib.Core.Path.{_≡_};
 ghost use Rattle.walk.specs.Walk.{walkOf};
 
@@ -24,13 +23,13 @@ pub fn walk(frame: &[u8], from: usize, stop: usize) -> Walked
         if stop <= at {
             break 'sets Walked::End(places);
         }
-        let SetRead::Good(read) = set::set_head(frame, at, stop, places) else {
+        let SetRead::Good(read) = sets::set_head(frame, at, stop, places) else {
             break 'sets Walked::Bad(at);
         };
         let k = read.kind;
         let len = read.len;
         let t = kinds::type_of(k);
-        let mut left = set::list_len(t, len);
+        let mut left = sets::list_len(t, len);
         while 0 < left {
             if left < 16 {
                 break 'sets Walked::Bad(at);
@@ -38,6 +37,6 @@ pub fn walk(frame: &[u8], from: usize, stop: usize) -> Walked
             left -= 16;
         }
         places = places::with(places, t, at, len);
-        at += set::extent(t, len);
+        at += sets::extent(t, len);
     }
 }

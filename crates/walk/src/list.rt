@@ -1,7 +1,6 @@
 // The search of a peer list for a member identifier.
+use members::Mi;
 use members::entry;
-use members::mi;
-use members::mi::Mi;
 ghost use mathlib.Core.Path.{_≡_};
 ghost use Rattle.walk.specs.List.{foundIn};
 
@@ -26,7 +25,7 @@ pub fn find(frame: &[u8], place: usize, len: u16, from: usize, m: Mi) -> Found
     while i < n {
         let e = entry::entry_at(frame, place + 4 + i * 16);
         let x = e.mi;
-        if mi::same_mi(x, m) {
+        if members::same_mi(x, m) {
             return Found::At(i, e.mn);
         }
         i += 1;

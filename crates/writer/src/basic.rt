@@ -1,7 +1,5 @@
 // The EAPOL header and the Basic set.
 use crate::mkpdu::Sender;
-use members::mi;
-use octets::number;
 use octets::run;
 use packed::basic::Flags;
 ghost use mathlib.Core.Path.{_≡_};
@@ -13,9 +11,9 @@ ghost use Rattle.writer.specs.Frame.{headerOctets, fixedOctets, cknOctet
 pub(crate) fn put_header(out: &mut [u8], body: u16)
     ensures { λ _. ⌜ now (out .exit) ≡ sets (now (out .entry)) 0 (headerOctets body) ⌝ }
 {
-    number::put_octet(out, 0, 3);
-    number::put_octet(out, 1, 5);
-    number::put_u16(out, 2, body);
+    octets::put_octet(out, 0, 3);
+    octets::put_octet(out, 1, 5);
+    octets::put_u16(out, 2, body);
 }
 
 fn put_fixed(out: &mut [u8], x: Sender, n: u8)
@@ -29,14 +27,14 @@ fn put_fixed(out: &mut [u8], x: Sender, n: u8)
         high: 0,
     };
     let m = x.mi;
-    number::put_octet(out, 4, 1);
-    number::put_octet(out, 5, x.priority);
-    number::put_octet(out, 6, packed::basic::pack(f));
-    number::put_octet(out, 7, 28 + n);
-    number::put_u64(out, 8, x.sci);
-    mi::put_mi(out, 16, m);
-    number::put_u32(out, 28, x.mn);
-    number::put_u32(out, 32, 0x0080_c201);
+    octets::put_octet(out, 4, 1);
+    octets::put_octet(out, 5, x.priority);
+    octets::put_octet(out, 6, packed::basic::pack(f));
+    octets::put_octet(out, 7, 28 + n);
+    octets::put_u64(out, 8, x.sci);
+    members::put_mi(out, 16, m);
+    octets::put_u32(out, 28, x.mn);
+    octets::put_u32(out, 32, 0x0080_c201);
 }
 
 // The CKN with its padding, at 36.

@@ -1,8 +1,6 @@
 // The SAK Use set and the Distributed SAK set.
 use crate::lists;
 use crate::mkpdu::Sak;
-use members::mi;
-use octets::number;
 use octets::run;
 use packed::sak::SakFlags;
 use packed::used::KeyFlags;
@@ -30,9 +28,9 @@ fn put_key(out: &mut [u8], at: usize, k: KeyUse)
     ensures { λ _. ⌜ now (out .exit) ≡ sets (now (out .entry)) at (keyOctets k) ⌝ }
 {
     let m = k.mi;
-    mi::put_mi(out, at, m);
-    number::put_u32(out, at + 12, k.kn);
-    number::put_u32(out, at + 16, k.pn);
+    members::put_mi(out, at, m);
+    octets::put_u32(out, at + 12, k.kn);
+    octets::put_u32(out, at + 16, k.pn);
 }
 
 // The place after the set, if the frame has one.
@@ -69,7 +67,7 @@ pub(crate) fn put_sak(out: &mut [u8], at: usize, distributed: bool, k: Sak) -> u
         confidentiality: k.confidentiality,
     });
     lists::put_set_header(out, at, 4, flags, 28);
-    number::put_u32(out, at + 4, k.kn);
+    octets::put_u32(out, at + 4, k.kn);
     run::put_all(out, at + 8, &wrapped);
     at + 32
 }

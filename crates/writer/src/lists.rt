@@ -2,7 +2,6 @@
 use members::entry;
 use members::entry::Entries;
 use members::entry::Entry;
-use octets::number;
 ghost use mathlib.Core.Path.{_≡_};
 ghost use Prim.Native.Nat.{_+_, _<_, _≤_, _^_};
 ghost use lib.ListN.{length, take};
@@ -14,10 +13,10 @@ pub(crate) fn put_set_header(out: &mut [u8], at: usize, t: u8, own: u8, len: u16
     requires { ⌜ at < 2 ^ 63 ⌝ }
     ensures { λ _. ⌜ now (out .exit) ≡ sets (now (out .entry)) at (setHeader t own len) ⌝ }
 {
-    number::put_octet(out, at, t);
-    number::put_octet(out, at + 1, own);
-    number::put_octet(out, at + 2, (len / 256) as u8);
-    number::put_octet(out, at + 3, (len % 256) as u8);
+    octets::put_octet(out, at, t);
+    octets::put_octet(out, at + 1, own);
+    octets::put_octet(out, at + 2, (len / 256) as u8);
+    octets::put_octet(out, at + 3, (len % 256) as u8);
 }
 
 fn put_entries(out: &mut [u8], at: usize, entries: [Entry; 16], n: usize)

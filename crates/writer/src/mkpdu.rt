@@ -1,6 +1,6 @@
 // What a frame says.
+use members::Mi;
 use members::entry::Entries;
-use members::mi::Mi;
 use sets::kinds::SakUse;
 
 // What the Basic set says of its sender; the CKN is the first `size` octets, at most 32.

@@ -8,7 +8,7 @@ use Rattle.election.specs.declared.Server.{Server}
 use Rattle.participant.specs.declared.call.Answer.the-variants as onCall
 use Rattle.receive.specs.declared.Answer.the-variants as onReceive
 use Rattle.send.specs.declared.Answer.the-variants as onSend
-use Rattle.writer.specs.declared.mkpdu.Wrote.the-variants as onWrite
+use Rattle.writer.specs.declared.Wrote.the-variants as onWrite
 use Rattle.history.specs.Calls.{Answer, received, sent, called, shown, saved}
 
 -- What comes out.

@@ -24,8 +24,8 @@ use Rattle.send.specs.declared.Answer as send
 use Rattle.send.specs.declared.Answer.the-variants as onSend
 use Rattle.octets.specs.Run.{written}
 use Rattle.writer.specs.Frame.{wroteOf}
-use Rattle.writer.specs.declared.mkpdu.Wrote.{Wrote}
-use Rattle.writer.specs.declared.mkpdu.Wrote.the-variants as onWrite
+use Rattle.writer.specs.declared.Wrote.{Wrote}
+use Rattle.writer.specs.declared.Wrote.the-variants as onWrite
 use Rattle.image.specs.Image.{imageOf}
 
 -- "Creating takes a time, MI, SCI, priority, capability, desired flag and CKN"

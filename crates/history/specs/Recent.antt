@@ -17,7 +17,7 @@ use Rattle.packed.specs.Basic.{octetOf}
 use Rattle.frame.specs.Basic.{basicFields}
 use Rattle.lists.specs.Laws.{by-cases, first-of, second-of}
 use Rattle.writer.specs.Frame.{headerOctets, senderFlags, fixedOctets, cknOf, basicOctets, bodyOctets, frameOf}
-use Rattle.writer.specs.declared.mkpdu.Mkpdu.{Mkpdu}
+use Rattle.writer.specs.declared.Mkpdu.{Mkpdu}
 use Rattle.writer.proofs.Laws.{length-header}
 use Rattle.participant.specs.Call.{agedTo}
 use Rattle.participant.specs.declared.Participant.{Participant}

@@ -26,7 +26,7 @@ use Rattle.send.specs.Send.{frameAt, sendFacts, sentAt, sentOf, leftBy}
 use Rattle.send.specs.Send as send
 use Rattle.send.specs.declared.Sent.{Sent}
 use Rattle.send.specs.declared.Answer.the-variants.{Octets}
-use Rattle.writer.specs.declared.mkpdu.Wrote.the-variants as onWrite
+use Rattle.writer.specs.declared.Wrote.the-variants as onWrite
 use Rattle.octets.specs.Run.{written}
 use Rattle.image.specs.Image.{imageOf}
 use Rattle.history.specs.Calls.{Call, receives, sends, distributes, ticks, renews, reports, asks, saves, received, sent, called, saved, answered, isAccepted, accepts}

@@ -3,7 +3,7 @@ use packed::bit;
 use participant::Participant;
 use participant::Slot;
 use table::ROOM;
-use writer::mkpdu::Wrote;
+use writer::Wrote;
 ghost use mathlib.Core.Path.{_≡_};
 ghost use Prim.Native.Nat.{_+_, _*_, _≤_, min};
 ghost use lib.ListN.{length};

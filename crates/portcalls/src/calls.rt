@@ -14,7 +14,7 @@ use participant::call::Answer;
 use participant::call::Called;
 use receive::Answer as Heard;
 use send::Answer as Sent;
-use writer::mkpdu::Wrote;
+use writer::Wrote;
 ghost use Prim.Native.Nat.{_≤_};
 
 // Whether a payload has the shape of its op's.

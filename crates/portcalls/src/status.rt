@@ -1,6 +1,5 @@
 // The answer to "ask": the line of the port page, then what is due.
 use crate::print;
-use page::status;
 use participant::Participant;
 
 fn due(out: &mut [u8], at: usize, x: bool) -> usize {
@@ -11,7 +10,7 @@ fn due(out: &mut [u8], at: usize, x: bool) -> usize {
 }
 
 pub(crate) fn line(out: &mut [u8], p: Participant) -> usize {
-    let n = print::line(out, 0, status::status(p));
+    let n = print::line(out, 0, page::status(p));
     let n = print::words(out, n, b" hello ");
     let n = due(out, n, questions::hello_due(p));
     let n = print::words(out, n, b" fresh ");

@@ -9,7 +9,7 @@ use receive::Received;
 use send::Answer as Sending;
 use send::Sent;
 use std::num;
-use writer::mkpdu::Wrote;
+use writer::Wrote;
 
 fn of_heard(r: Received) -> u64 {
     let q = r.participant;

@@ -20,7 +20,7 @@ use Rattle.packed.proofs.Laws.{basic-round}
 use Rattle.frame.specs.Basic.{bodyLen, basicLen, fact2, fact3, fact4, fact5, basicFields, basicOf}
 use Rattle.frame.specs.declared.BasicRead.the-variants.{Read}
 use Rattle.writer.specs.Frame.{headerOctets, senderFlags, fixedOctets}
-use Rattle.writer.specs.declared.mkpdu.Sender.{Sender}
+use Rattle.writer.specs.declared.Sender.{Sender}
 use Rattle.writer.proofs.Laws.{length-header}
 use Rattle.round.specs.Ranged.{GoodSender, basicWritten}
 

@@ -16,9 +16,9 @@ use Rattle.places.specs.declared.Places.{Places}
 use Rattle.sets.specs.declared.kinds.KeyUse.{KeyUse}
 use Rattle.sets.specs.declared.kinds.SakHeader.{SakHeader}
 use Rattle.writer.specs.Frame.{listSet, usePart, bodyOctets}
-use Rattle.writer.specs.declared.mkpdu.Sender.{Sender}
-use Rattle.writer.specs.declared.mkpdu.Sak.{Sak}
-use Rattle.writer.specs.declared.mkpdu.Mkpdu.{Mkpdu}
+use Rattle.writer.specs.declared.Sender.{Sender}
+use Rattle.writer.specs.declared.Sak.{Sak}
+use Rattle.writer.specs.declared.Mkpdu.{Mkpdu}
 
 pub record GoodSender (x : Sender) : Type 0 where
   pub capability : x .capability < 4

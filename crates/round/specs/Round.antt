@@ -29,7 +29,7 @@ use Rattle.walk.specs.Walk.{walkFrom, walkOf}
 use Rattle.walk.specs.declared.Walked.the-variants.{End}
 use Rattle.walk.proofs.Laws.{walk-end}
 use Rattle.writer.specs.Frame.{headerOctets, cknOf, cknOctets, fixedOctets, basicOctets, setHeader, listOctets, listSet, keyFlags, keyOctets, useSet, usePart, sakSet, sakPart, bodyOctets, frameOf}
-use Rattle.writer.specs.declared.mkpdu.Mkpdu.{Mkpdu}
+use Rattle.writer.specs.declared.Mkpdu.{Mkpdu}
 use Rattle.writer.proofs.Laws.{length-header, length-fixed, length-basic, length-cknOf, length-list, length-listSet, length-key, length-body, length-frame, entriesOf-le, body-le, body-four}
 use Rattle.round.specs.Ranged.{Ranged, basicWritten, livePlace, potentialPlace, usePlace, sakPlace, spotIf, listSpot, placesWritten, sakWritten, GoodEntries}
 use Rattle.round.specs.Basic.{begun, basic-read}

@@ -34,7 +34,7 @@ use Rattle.walk.specs.List.{entriesFrom}
 use Rattle.walk.specs.Walk.{walkFrom}
 use Rattle.walk.proofs.Laws.{walk-next}
 use Rattle.writer.specs.Frame.{setHeader, listOctets, keyFlags, keyOctets, useSet, sakSet}
-use Rattle.writer.specs.declared.mkpdu.Sak.{Sak}
+use Rattle.writer.specs.declared.Sak.{Sak}
 use Rattle.writer.proofs.Laws.{length-key}
 use Rattle.round.specs.Ranged.{GoodEntries, GoodKey, GoodSak, sakWritten, spotIf}
 

@@ -11,7 +11,7 @@ use Rattle.octets.specs.Run.{written}
 use Rattle.expiry.specs.Expiry.{expired}
 use Rattle.lists.specs.Laws.{by-cases, never}
 use Rattle.writer.specs.Frame.{wroteOf}
-use Rattle.writer.specs.declared.mkpdu.Wrote.the-variants as wrote
+use Rattle.writer.specs.declared.Wrote.the-variants as wrote
 use Rattle.participant.specs.Call.{agedTo}
 use Rattle.participant.specs.Record.{setClock, setMn, setSent, setTable}
 use Rattle.participant.specs.declared.Participant.{Participant}

@@ -5,9 +5,9 @@ use Rattle.counts.specs.Counts.{liveList, potentialList}
 use Rattle.election.specs.declared.Server.{Server}
 use Rattle.election.specs.declared.Server.the-variants.{Nobody, Ourselves, Elected}
 use Rattle.sets.specs.declared.kinds.KeyUse.{KeyUse}
-use Rattle.writer.specs.declared.mkpdu.Sender.{Sender}
-use Rattle.writer.specs.declared.mkpdu.Sak.{Sak}
-use Rattle.writer.specs.declared.mkpdu.Mkpdu.{Mkpdu}
+use Rattle.writer.specs.declared.Sender.{Sender}
+use Rattle.writer.specs.declared.Sak.{Sak}
+use Rattle.writer.specs.declared.Mkpdu.{Mkpdu}
 use Rattle.questions.specs.Ask.{serverOf, electedSelf}
 use Rattle.participant.specs.Keys.{ofMember}
 use Rattle.participant.specs.declared.Slot.{Slot}

@@ -2,8 +2,7 @@
 use facts::Check;
 use participant::Participant;
 use participant::call;
-use writer::frame;
-use writer::mkpdu::Wrote;
+use writer::Wrote;
 ghost use mathlib.Core.Path.{_≡_};
 ghost use lib.ListN.{length};
 ghost use Rattle.send.specs.Send.{refusedOf, sentOf, leftBy};
@@ -43,7 +42,7 @@ pub fn send(p: Participant, time: u64, latest_pn: u32, old_pn: u32, out: &mut [u
     };
     let q = call::aged_to(p, time);
     let m = message::message(q, latest_pn, old_pn);
-    let Wrote::Octets(n) = frame::write(out, m) else {
+    let Wrote::Octets(n) = writer::write(out, m) else {
         return refused(p, 13);
     };
     let mut s = q;

@@ -18,7 +18,7 @@ use Rattle.lookup.specs.Look.{isLive, isPotential}
 use Rattle.counts.specs.Counts.{entryOf}
 use Rattle.counts.proofs.Listing.{live-listed, potential-listed}
 use Rattle.writer.specs.Frame.{bodyOctets}
-use Rattle.writer.specs.declared.mkpdu.Mkpdu.{Mkpdu}
+use Rattle.writer.specs.declared.Mkpdu.{Mkpdu}
 use Rattle.participant.specs.Call.{agedTo}
 use Rattle.participant.specs.declared.Participant.{Participant}
 use Rattle.send.specs.Message.{handsOut, keyUseOf, sakOf, senderOf, messageOf}

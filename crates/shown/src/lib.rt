@@ -1,7 +1,6 @@
 // The line of the port page for the octets of an image: what `portshow` prints.
 use page::line;
 use page::line::Line;
-use page::status;
 use participant::call::Answer;
 ghost use mathlib.Core.Path.{_≡_};
 ghost use Rattle.shown.specs.Show.{shownOf};
@@ -14,7 +13,7 @@ pub fn show(image: &[u8]) -> Line
     match a {
         Answer::Done => {
             let p = r.participant;
-            line::ended(status::status(p))
+            line::ended(page::status(p))
         }
         Answer::Refused(n) => line::refused(n),
     }

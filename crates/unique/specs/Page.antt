@@ -2,11 +2,11 @@
 use Rattle.page.proofs as page
 use Rattle.unique.specs.Law.{OneAnswer, same}
 
+pub page·status : OneAnswer page.status.Kinds.ps page.status.Kinds.r page.status.Reads.Learnt
+page·status κs a z z′ e e′ h h′ = same h h′
+
 pub page·line·ended : OneAnswer page.line.ended.Kinds.ps page.line.ended.Kinds.r page.line.ended.Reads.Learnt
 page·line·ended κs a z z′ e e′ h h′ = same h h′
 
 pub page·line·refused : OneAnswer page.line.refused.Kinds.ps page.line.refused.Kinds.r page.line.refused.Reads.Learnt
 page·line·refused κs a z z′ e e′ h h′ = same h h′
-
-pub page·status·status : OneAnswer page.status.status.Kinds.ps page.status.status.Kinds.r page.status.status.Reads.Learnt
-page·status·status κs a z z′ e e′ h h′ = same h h′

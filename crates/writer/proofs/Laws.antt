@@ -16,9 +16,9 @@ use Rattle.octets.proofs.Stores.{length-runs}
 use Rattle.members.proofs.Laws.{length-mi, length-entry}
 use Rattle.sets.specs.declared.kinds.KeyUse.{KeyUse}
 use Rattle.sets.specs.declared.kinds.SakUse.{SakUse}
-use Rattle.writer.specs.declared.mkpdu.Sender.{Sender}
-use Rattle.writer.specs.declared.mkpdu.Sak.{Sak}
-use Rattle.writer.specs.declared.mkpdu.Mkpdu.{Mkpdu}
+use Rattle.writer.specs.declared.Sender.{Sender}
+use Rattle.writer.specs.declared.Sak.{Sak}
+use Rattle.writer.specs.declared.Mkpdu.{Mkpdu}
 use Rattle.writer.specs.Frame.{headerOctets, cknOf, fixedOctets, cknOctets, basicOctets, setHeader, listOctets, listSet, keyOctets, useSet, usePart, sakSet, sakPart, bodyOctets, frameOf}
 
 -- the length of an array of structs that is a struct's field, from what owning the struct tells

@@ -6,7 +6,7 @@ use lib.ListN.{length, replicate}
 use lib.Seq.{sets}
 use Rattle.members.specs.Entry.{entriesOf}
 use Rattle.octets.proofs.Stores.{sets-on, sets-two}
-use Rattle.writer.specs.declared.mkpdu.Mkpdu.{Mkpdu}
+use Rattle.writer.specs.declared.Mkpdu.{Mkpdu}
 use Rattle.writer.specs.Frame.{headerOctets, basicOctets, listSet, usePart, sakPart, bodyOctets, frameOf}
 use Rattle.writer.proofs.Laws.{length-header}
 

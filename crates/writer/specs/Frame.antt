@@ -17,11 +17,11 @@ use Rattle.packed.specs.declared.basic.Flags.{Flags}
 use Rattle.packed.specs.declared.used.KeyFlags.{KeyFlags}
 use Rattle.sets.specs.declared.kinds.KeyUse.{KeyUse}
 use Rattle.sets.specs.declared.kinds.SakUse.{SakUse}
-use Rattle.writer.specs.declared.mkpdu.Sender.{Sender}
-use Rattle.writer.specs.declared.mkpdu.Sak.{Sak}
-use Rattle.writer.specs.declared.mkpdu.Mkpdu.{Mkpdu}
-use Rattle.writer.specs.declared.mkpdu.Wrote.{Wrote}
-use Rattle.writer.specs.declared.mkpdu.Wrote.the-variants.{Octets, Refused}
+use Rattle.writer.specs.declared.Sender.{Sender}
+use Rattle.writer.specs.declared.Sak.{Sak}
+use Rattle.writer.specs.declared.Mkpdu.{Mkpdu}
+use Rattle.writer.specs.declared.Wrote.{Wrote}
+use Rattle.writer.specs.declared.Wrote.the-variants.{Octets, Refused}
 
 -- "Header: version, type, 2-octet body length"; "EAPOL version 3"
 unfoldable pub headerOctets : ℕ → List ℕ

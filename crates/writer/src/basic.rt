@@ -1,5 +1,5 @@
 // The EAPOL header and the Basic set.
-use crate::mkpdu::Sender;
+use crate::Sender;
 use octets::run;
 use packed::basic::Flags;
 ghost use mathlib.Core.Path.{_≡_};

@@ -1,6 +1,6 @@
 // The SAK Use set and the Distributed SAK set.
+use crate::Sak;
 use crate::lists;
-use crate::mkpdu::Sak;
 use octets::run;
 use packed::sak::SakFlags;
 use packed::used::KeyFlags;

@@ -1,6 +1,6 @@
 use Rattle.image.proofs.Laws.{length-entries, length-image, image-stored}
 use Rattle.image.specs.Image.{imageOf}
-use Rattle.writer.specs.declared.mkpdu.Wrote.the-variants.{Octets}
+use Rattle.writer.specs.declared.Wrote.the-variants.{Octets}
 use Rattle.table.specs.Table.{entries}
 use Rattle.packed.specs.Bit.{bit}
 use Rattle.octets.proofs.Stores.{sets-whole}

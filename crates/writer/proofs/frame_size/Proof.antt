@@ -7,8 +7,8 @@ use borrow.Author.Needs.{length-unmapped, needs}
 use Rattle.members.specs.Entry.{entriesOf}
 use Rattle.writer.specs.Frame.{usePart, sakPart, listSet, cknOf}
 use Rattle.writer.proofs.Laws.{length-cknOf, body-le, length-basic, length-listSet, length-usePart, length-sakPart, length-body, length-frame, body-ge}
-use Rattle.writer.proofs.frame.frame_size.Statement.{statement}
-use Rattle.writer.proofs.frame.frame_size.Tie as tie
+use Rattle.writer.proofs.frame_size.Statement.{statement}
+use Rattle.writer.proofs.frame_size.Tie as tie
 
 ckn-long : (c : tie.Start) → length (c .args .m .sender .ckn) ≡ 32
 ckn-long c = search needs

@@ -5,8 +5,8 @@ use lib.ListN.{length}
 use borrow.Author.Needs.{needs}
 use Rattle.members.specs.Entry.{entriesOf}
 use Rattle.writer.proofs.Laws.{length-entries, no-list, length-some, unmapped}
-use Rattle.writer.proofs.frame.list_size.Statement.{statement}
-use Rattle.writer.proofs.frame.list_size.Tie as tie
+use Rattle.writer.proofs.list_size.Statement.{statement}
+use Rattle.writer.proofs.list_size.Tie as tie
 
 at-most-requires : tie.Need-at-most-requires
 at-most-requires c κs = search needs

@@ -1,7 +1,7 @@
 use borrow.Author.Needs.{needs}
 use Rattle.page.specs.Status.{keyText}
-use Rattle.page.proofs.status.put_key.Statement.{statement}
-use Rattle.page.proofs.status.put_key.Tie as tie
+use Rattle.page.proofs.put_key.Statement.{statement}
+use Rattle.page.proofs.put_key.Tie as tie
 
 put-decimal-requires : tie.Need-put-decimal-requires
 put-decimal-requires c κs = search needs

@@ -1,7 +1,7 @@
 use borrow.Author.Needs.{needs}
 use Rattle.page.specs.Status.{serverText}
-use Rattle.page.proofs.status.put_server.Statement.{statement}
-use Rattle.page.proofs.status.put_server.Tie as tie
+use Rattle.page.proofs.put_server.Statement.{statement}
+use Rattle.page.proofs.put_server.Tie as tie
 
 enum-told : tie.Need-enum-told
 enum-told c = search needs

@@ -12,8 +12,8 @@ use Rattle.writer.specs.Frame.{headerOctets, frameOf, bodyOctets}
 use Rattle.writer.proofs.Laws.{length-frame, basic-le, entries-le, use-le}
 use Rattle.octets.proofs.Stores.{sets-whole}
 use Rattle.writer.proofs.Stores.{stored}
-use Rattle.writer.proofs.frame.write.Statement.{statement}
-use Rattle.writer.proofs.frame.write.Tie as tie
+use Rattle.writer.proofs.write.Statement.{statement}
+use Rattle.writer.proofs.write.Tie as tie
 
 frame-size-requires : tie.Need-frame-size-requires
 frame-size-requires c κs = search needs

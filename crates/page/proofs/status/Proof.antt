@@ -7,8 +7,8 @@ use borrow.Author.Needs.{needs}
 use Rattle.page.specs.Text.{ascii, room, lineOf}
 use Rattle.page.specs.Status.{statusText}
 use Rattle.page.proofs.Stores.{stored, number-end, server-end}
-use Rattle.page.proofs.status.status.Statement.{statement}
-use Rattle.page.proofs.status.status.Tie as tie
+use Rattle.page.proofs.status.Statement.{statement}
+use Rattle.page.proofs.status.Tie as tie
 
 live-count-requires : tie.Need-live-count-requires
 live-count-requires c κs = search needs

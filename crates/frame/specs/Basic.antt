@@ -4,10 +4,10 @@ use mathlib.Core.List.{List, [], _∷_}
 use mathlib.Core.Bool.{Bool, cond, not, _||_}
 use lib.ListN.{length, getD}
 use lib.Dec.{ltb, eqb}
-use Rattle.facts.specs.Facts.{firstOf, paddedOf}
-use Rattle.octets.specs.Number.{beAt}
-use Rattle.members.specs.Mi.{miAt}
-use Rattle.packed.specs.Basic.{flagsOf}
+use Rattle.base_facts.specs.Facts.{firstOf, paddedOf}
+use Rattle.base_octets.specs.Number.{beAt}
+use Rattle.base_mi.specs.Mi.{miAt}
+use Rattle.base_packed.specs.Basic.{flagsOf}
 use Rattle.frame.specs.declared.Length.{Length}
 use Rattle.frame.specs.declared.Length.the-variants.{Octets, Short}
 use Rattle.frame.specs.declared.Basic.{Basic}
@@ -56,7 +56,7 @@ basicFields s n body =
       mi = miAt s 16;
       mn = beAt s 28 4;
       agility = beAt s 32 4;
-      ckn = n - 28;
+      size = n - 28;
       next = 8 + paddedOf n;
       stop = body - 12;
     }

@@ -13,7 +13,7 @@ sameAt s at (x ∷ xs) = eqb (getD s at 0) x && sameAt s (at + 1) xs
 
 -- 6: "CKN not ours": by length and octets; padding is not looked at.
 unfoldable pub fact6 : List ℕ → Basic → List ℕ → Bool
-fact6 s b ckn = not (eqb (b .ckn) (length ckn) && sameAt s 36 ckn)
+fact6 s b ckn = not (eqb (b .size) (length ckn) && sameAt s 36 ckn)
 
 -- 7: "agility not 00-80-C2-01"
 abbrev pub fact7 : Basic → Bool

@@ -1,8 +1,8 @@
 // The EAPOL header and the Basic set of a frame: facts 2 to 5 in their order, and what the Basic set says. Beside it facts 6 and 7.
-use facts::Check;
-use members::Mi;
+use base_facts::Check;
+use base_mi::Mi;
 ghost use mathlib.Core.Path.{_≡_};
-ghost use Rattle.facts.specs.Facts.{checkOf};
+ghost use Rattle.base_facts.specs.Facts.{checkOf};
 ghost use Rattle.frame.specs.Basic.{lengthOf, fact3, fact4, fact5, basicLen, basicFields, basicOf};
 
 pub mod ours;
@@ -23,7 +23,7 @@ pub struct Basic {
     pub mi: Mi,
     pub mn: u32,
     pub agility: u32,
-    pub ckn: usize,
+    pub size: usize,
     pub next: usize,
     pub stop: usize,
 }
@@ -39,7 +39,7 @@ fn body_length(frame: &[u8]) -> Length
     if frame.len() < 4 {
         return Length::Short;
     }
-    let n = octets::u16_at(frame, 2) as usize;
+    let n = base_octets::u16_at(frame, 2) as usize;
     if frame.len() - 4 < n {
         return Length::Short;
     }
@@ -49,10 +49,10 @@ fn body_length(frame: &[u8]) -> Length
 fn kind(frame: &[u8]) -> Check
     ensures { λ r. ⌜ r ≡ checkOf (fact3 (now (frame .entry))) ⌝ }
 {
-    if octets::octet(frame, 0) < 3 {
+    if base_octets::octet(frame, 0) < 3 {
         return Check::Failed;
     }
-    facts::fail_if(octets::octet(frame, 1) != 5)
+    base_facts::fail_if(base_octets::octet(frame, 1) != 5)
 }
 
 fn body_shape(n: usize) -> Check
@@ -61,15 +61,15 @@ fn body_shape(n: usize) -> Check
     if n < 32 {
         return Check::Failed;
     }
-    facts::fail_if(n % 4 != 0)
+    base_facts::fail_if(n % 4 != 0)
 }
 
 fn basic_length(frame: &[u8]) -> u16
     ensures { λ r. ⌜ r ≡ basicLen (now (frame .entry)) ⌝ }
 {
-    let f = packed::basic::unpack(octets::octet(frame, 6));
+    let f = base_packed::basic::unpack(base_octets::octet(frame, 6));
     let high = f.high as u16;
-    high * 256 + octets::octet(frame, 7) as u16
+    high * 256 + base_octets::octet(frame, 7) as u16
 }
 
 fn basic_shape(n: u16, body: usize) -> Check
@@ -81,26 +81,26 @@ fn basic_shape(n: u16, body: usize) -> Check
     if 60 < n {
         return Check::Failed;
     }
-    facts::fail_if(body < 4 + facts::padded(n) + 16)
+    base_facts::fail_if(body < 4 + base_facts::padded(n) + 16)
 }
 
 fn basic_fields(frame: &[u8], n: u16, body: usize) -> Basic
     ensures { λ r. ⌜ r ≡ basicFields (now (frame .entry)) n body ⌝ }
 {
-    let f = packed::basic::unpack(octets::octet(frame, 6));
+    let f = base_packed::basic::unpack(base_octets::octet(frame, 6));
     Basic {
-        version: octets::octet(frame, 4),
-        priority: octets::octet(frame, 5),
+        version: base_octets::octet(frame, 4),
+        priority: base_octets::octet(frame, 5),
         server: f.server,
         desired: f.desired,
         capability: f.capability,
-        sci: octets::u64_at(frame, 8),
-        mi: members::mi_at(frame, 16),
-        mn: octets::u32_at(frame, 28),
-        agility: octets::u32_at(frame, 32),
-        ckn: facts::less(n as usize, 28),
-        next: 8 + facts::padded(n),
-        stop: facts::less(body, 12),
+        sci: base_octets::u64_at(frame, 8),
+        mi: base_mi::mi_at(frame, 16),
+        mn: base_octets::u32_at(frame, 28),
+        agility: base_octets::u32_at(frame, 32),
+        size: base_facts::less(n as usize, 28),
+        next: 8 + base_facts::padded(n),
+        stop: base_facts::less(body, 12),
     }
 }
 

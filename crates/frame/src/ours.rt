@@ -1,9 +1,9 @@
 // Whether a frame is for us: facts 6 and 7.
 use crate::Basic;
-use facts::Check;
+use base_facts::Check;
 ghost use mathlib.Core.Path.{_≡_};
 ghost use Prim.Native.Nat.{_<_, _^_};
-ghost use Rattle.facts.specs.Facts.{checkOf};
+ghost use Rattle.base_facts.specs.Facts.{checkOf};
 ghost use Rattle.frame.specs.Ours.{sameAt, fact6, fact7};
 
 pub const AGILITY: u32 = 0x0080_c201;
@@ -15,7 +15,7 @@ fn same_at(s: &[u8], at: usize, key: &[u8]) -> bool
     let mut p = at;
     let mut i = 0;
     while i < key.len() {
-        if octets::octet(s, p) == key[i] {
+        if base_octets::octet(s, p) == key[i] {
             p += 1;
             i += 1;
         } else {
@@ -29,7 +29,7 @@ fn same_at(s: &[u8], at: usize, key: &[u8]) -> bool
 pub fn name_ours(frame: &[u8], b: Basic, ckn: &[u8]) -> Check
     ensures { λ r. ⌜ r ≡ checkOf (fact6 (now (frame .entry)) b (now (ckn .entry))) ⌝ }
 {
-    if b.ckn == ckn.len() {
+    if b.size == ckn.len() {
         if same_at(frame, 36, ckn) {
             return Check::Passed;
         }
@@ -41,5 +41,5 @@ pub fn name_ours(frame: &[u8], b: Basic, ckn: &[u8]) -> Check
 pub fn agility_ours(b: Basic) -> Check
     ensures { λ r. ⌜ r ≡ checkOf (fact7 b) ⌝ }
 {
-    facts::fail_if(b.agility != AGILITY)
+    base_facts::fail_if(b.agility != AGILITY)
 }

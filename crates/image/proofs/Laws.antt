@@ -5,21 +5,21 @@ use mathlib.Core.List.{List, [], _∷_, _++_, append-assoc, append-nil}
 use native.Mathlib.Omega.{arith}
 use lib.ListN.{length, length-append, length-take}
 use lib.Seq.{sets}
-use Rattle.octets.proofs.Stores.{sets-on, length-runs}
-use Rattle.packed.specs.Bit.{bit}
+use Rattle.base_octets.proofs.Stores.{sets-on, length-runs}
+use Rattle.base_packed.specs.Bit.{bit}
 use Rattle.table.specs.Table.{entries}
 use Rattle.table.specs.declared.Table.{Table}
-use Rattle.lists.specs.Laws.{by-cases}
+use Rattle.law_lists.specs.Laws.{by-cases}
 use Rattle.participant.specs.declared.Slot.{Slot}
 use Rattle.participant.specs.declared.Participant.{Participant}
-use Rattle.layout.specs.Layout.{headOf, entryOf, entriesFrom, bodies, laidOf}
-use Rattle.layout.proofs.Laws.{length-head, length-entry}
-use Rattle.own.specs.Own.{ownOctets}
-use Rattle.peer.specs.Peer.{peerOctets, peersOctets}
-use Rattle.key.specs.Key.{keyOctets, slotOctets}
-use Rattle.peer.proofs.Laws.{length-peer}
-use Rattle.key.proofs.Laws.{length-key}
-use Rattle.own.proofs.Lengths.{length-own}
+use Rattle.image_layout.specs.Layout.{headOf, entryOf, entriesFrom, bodies, laidOf}
+use Rattle.image_layout.proofs.Laws.{length-head, length-entry}
+use Rattle.image_own.specs.Own.{ownOctets}
+use Rattle.image_peer.specs.Peer.{peerOctets, peersOctets}
+use Rattle.image_key.specs.Key.{keyOctets, slotOctets}
+use Rattle.image_peer.proofs.Laws.{length-peer}
+use Rattle.image_key.proofs.Laws.{length-key}
+use Rattle.image_own.proofs.Lengths.{length-own}
 use Rattle.image.specs.Image.{ownPart, peersPart, keysPart, contentsFor, imageOf}
 
 pub length-entries : (t : Table) → length (t .peers) ≡ 16 → length (entries t) ≡ min (t .count) 16

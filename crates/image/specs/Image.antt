@@ -2,13 +2,13 @@
 use Prim.Native.Nat.{ℕ, _+_, _*_}
 use mathlib.Core.List.{List, [], _∷_, _++_}
 use lib.ListN.{length}
-use Rattle.packed.specs.Bit.{bit}
+use Rattle.base_packed.specs.Bit.{bit}
 use Rattle.table.specs.Table.{entries}
 use Rattle.participant.specs.declared.Participant.{Participant}
-use Rattle.layout.specs.Layout.{Part, headOf, entryOf, laidOf}
-use Rattle.own.specs.Own.{ownOctets}
-use Rattle.peer.specs.Peer.{peersOctets}
-use Rattle.key.specs.Key.{slotOctets}
+use Rattle.image_layout.specs.Layout.{Part, headOf, entryOf, laidOf}
+use Rattle.image_own.specs.Own.{ownOctets}
+use Rattle.image_peer.specs.Peer.{peersOctets}
+use Rattle.image_key.specs.Key.{slotOctets}
 
 -- Kind 1: one own record.
 unfoldable pub ownPart : Participant → Part

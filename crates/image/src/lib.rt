@@ -1,16 +1,16 @@
 // The saved port image of a participant, written.
-use packed::bit;
+use base_packed::bit;
+use frame_writer::Wrote;
 use participant::Participant;
 use participant::Slot;
 use table::ROOM;
-use writer::Wrote;
 ghost use mathlib.Core.Path.{_≡_};
 ghost use Prim.Native.Nat.{_+_, _*_, _≤_, min};
 ghost use lib.ListN.{length};
 ghost use lib.Seq.{sets};
-ghost use Rattle.packed.specs.Bit.{bit as bitOf};
-ghost use Rattle.octets.specs.Run.{written};
-ghost use Rattle.writer.specs.Frame.{wroteOf};
+ghost use Rattle.base_packed.specs.Bit.{bit as bitOf};
+ghost use Rattle.base_octets.specs.Run.{written};
+ghost use Rattle.frame_writer.specs.Frame.{wroteOf};
 ghost use Rattle.image.specs.Image.{contentsFor, imageOf};
 
 // The contents table for n peers and k keys.
@@ -18,10 +18,10 @@ fn put_contents(out: &mut [u8], n: usize, k: u8)
     requires { ⌜ n ≤ 16 ⌝ }
     ensures { λ _. ⌜ now (out .exit) ≡ sets (now (out .entry)) 0 (contentsFor n k) ⌝ }
 {
-    layout::put_head(out, 3);
-    layout::put_entry(out, 0, 1, 28);
-    layout::put_entry(out, 1, n as u16, 144);
-    layout::put_entry(out, 2, k as u16, 144 + n as u32 * 44);
+    image_layout::put_head(out, 3);
+    image_layout::put_entry(out, 0, 1, 28);
+    image_layout::put_entry(out, 1, n as u16, 144);
+    image_layout::put_entry(out, 2, k as u16, 144 + n as u32 * 44);
 }
 
 // 28 for a key that is held.
@@ -37,7 +37,7 @@ pub fn write(out: &mut [u8], p: Participant) -> Wrote
     let t = p.table;
     let latest = p.latest;
     let old = p.old;
-    let n = facts::at_most(t.count, ROOM);
+    let n = base_facts::at_most(t.count, ROOM);
     let keys = 144 + n as u32 * 44;
     let next = keys + key_size(latest);
     let total = (next + key_size(old)) as usize;
@@ -45,9 +45,9 @@ pub fn write(out: &mut [u8], p: Participant) -> Wrote
         return Wrote::Refused(13);
     }
     put_contents(out, n, bit::bit_of(latest.held) + bit::bit_of(old.held));
-    own::put_own(out, 28, p);
-    peer::put_peers(out, 144, t);
-    key::put_slot(out, keys, latest);
-    key::put_slot(out, next, old);
+    image_own::put_own(out, 28, p);
+    image_peer::put_peers(out, 144, t);
+    image_key::put_slot(out, keys, latest);
+    image_key::put_slot(out, next, old);
     Wrote::Octets(total)
 }

@@ -10,7 +10,7 @@ use lib.ListN.{length, length-append}
 use lib.Dec.{ltb, lit<}
 use borrow.Author.Tests.{lt-ltb, ltb-true, ltb-false}
 use Rattle.io.specs.Digits.{digits, glyph, Fewest}
-use Rattle.members.specs.declared.Mi.{Mi}
+use Rattle.base_mi.specs.declared.Mi.{Mi}
 use Rattle.page.specs.Text.{placesUpTo, decimalOf, hexOf}
 
 pub length-digits : (b k n : ℕ) → length (digits b k n) ≡ k

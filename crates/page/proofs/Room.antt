@@ -6,15 +6,15 @@ use mathlib.Core.Bool.{Bool, true, false}
 use native.Mathlib.Nat.{zero-add}
 use borrow.Author.Tests.{lt-ltb}
 use lib.Seq.{sets}
-use Rattle.octets.proofs.Laws.{sets-append}
+use Rattle.base_octets.proofs.Laws.{sets-append}
 use Rattle.page.specs.Text.{ascii, room, lineOf, endedOf}
 use native.Mathlib.Omega.{arith}
 use lib.ListN.{length, length-append, replicate, set}
-use Rattle.counts.specs.Counts.{liveCount, potentialCount}
-use Rattle.expiry.proofs.Aging.{at-most-16}
-use Rattle.counts.proofs.Listing.{live-potential}
+use Rattle.table_counts.specs.Counts.{liveCount, potentialCount}
+use Rattle.table_expiry.proofs.Aging.{at-most-16}
+use Rattle.table_counts.proofs.Listing.{live-potential}
 use Rattle.participant.specs.declared.Participant.{Participant}
-use Rattle.questions.specs.Ask.{serverOf}
+use Rattle.call_questions.specs.Ask.{serverOf}
 use Rattle.page.specs.Status.{keyText, statusText}
 use Rattle.page.proofs.Laws.{decimal-below}
 use Rattle.page.proofs.Stores.{server-le}

@@ -5,11 +5,11 @@ use mathlib.Core.List.{List, _++_}
 use native.Mathlib.Omega.{arith}
 use lib.ListN.{length, length-append}
 use lib.Seq.{sets}
-use Rattle.octets.proofs.Stores.{sets-on}
-use Rattle.election.specs.declared.Server.{Server}
-use Rattle.election.specs.declared.Server.the-variants.{Nobody, Ourselves, Elected}
-use Rattle.counts.specs.Counts.{liveCount, potentialCount}
-use Rattle.questions.specs.Ask.{serverOf}
+use Rattle.base_octets.proofs.Stores.{sets-on}
+use Rattle.table_election.specs.declared.Server.{Server}
+use Rattle.table_election.specs.declared.Server.the-variants.{Nobody, Ourselves, Elected}
+use Rattle.table_counts.specs.Counts.{liveCount, potentialCount}
+use Rattle.call_questions.specs.Ask.{serverOf}
 use Rattle.participant.specs.declared.Participant.{Participant}
 use Rattle.page.specs.Text.{ascii, decimalOf}
 use Rattle.page.specs.Status.{serverText, keyText, statusText}

@@ -3,10 +3,10 @@
 use Prim.Native.Nat.{ℕ}
 use mathlib.Core.Bool.{Bool, cond}
 use mathlib.Core.List.{List, _++_}
-use Rattle.election.specs.declared.Server.{Server}
-use Rattle.election.specs.declared.Server.the-variants.{Nobody, Ourselves, Elected}
-use Rattle.counts.specs.Counts.{liveCount, potentialCount}
-use Rattle.questions.specs.Ask.{serverOf}
+use Rattle.table_election.specs.declared.Server.{Server}
+use Rattle.table_election.specs.declared.Server.the-variants.{Nobody, Ourselves, Elected}
+use Rattle.table_counts.specs.Counts.{liveCount, potentialCount}
+use Rattle.call_questions.specs.Ask.{serverOf}
 use Rattle.participant.specs.declared.Participant.{Participant}
 use Rattle.page.specs.Text.{ascii, decimalOf, hexOf}
 

@@ -8,7 +8,7 @@ use lib.ListN.{length, replicate, set}
 use lib.Dec.{ltb}
 use lib.Seq.{sets}
 use Rattle.io.specs.Digits.{digits}
-use Rattle.members.specs.declared.Mi.{Mi}
+use Rattle.base_mi.specs.declared.Mi.{Mi}
 use Rattle.page.specs.declared.line.Line.{Line}
 
 -- One octet for each character.

@@ -1,6 +1,6 @@
 // A line of text by value, made part by part.
-use members::Mi;
-use octets::run;
+use base_mi::Mi;
+use base_octets::run;
 ghost use mathlib.Core.Path.{_≡_};
 ghost use Prim.Native.Nat.{_+_, _<_, _≤_, _^_};
 ghost use mathlib.Core.List.{_++_};

@@ -3,8 +3,8 @@ use Prim.Native.Nat.{ℕ}
 use mathlib.Core.Bool.{Bool, cond}
 use mathlib.Core.List.{List, [], _∷_}
 use lib.Dec.{ltb, eqb}
-use Rattle.facts.specs.Facts.{firstOf}
-use Rattle.expiry.specs.Expiry.{expired}
+use Rattle.base_facts.specs.Facts.{firstOf}
+use Rattle.table_expiry.specs.Expiry.{expired}
 use Rattle.participant.specs.declared.Participant.{Participant}
 use Rattle.participant.specs.declared.call.Answer.the-variants.{Done, Refused}
 use Rattle.participant.specs.declared.call.Called.{Called}

@@ -2,8 +2,8 @@
 use Prim.Native.Nat.{ℕ}
 use mathlib.Core.Bool.{Bool, true, false, _&&_}
 use lib.Dec.{eqb}
-use Rattle.members.specs.Mi.{miSame}
-use Rattle.members.specs.declared.Mi.{Mi}
+use Rattle.base_mi.specs.Mi.{miSame}
+use Rattle.base_mi.specs.declared.Mi.{Mi}
 use Rattle.participant.specs.declared.Key.{Key}
 use Rattle.participant.specs.declared.Slot.{Slot}
 use Rattle.participant.specs.declared.Participant.{Participant}

@@ -4,7 +4,7 @@ use mathlib.Core.List.{List}
 use Prim.Native.Nat.{ℕ}
 use lib.ListN.{replicate}
 use lib.Seq.{sets}
-use Rattle.members.specs.declared.Mi.{Mi}
+use Rattle.base_mi.specs.declared.Mi.{Mi}
 use Rattle.table.specs.declared.Table.{Table}
 use Rattle.participant.specs.declared.Slot.{Slot}
 use Rattle.participant.specs.declared.Participant.{Participant}

@@ -38,7 +38,7 @@ pub fn aged_to(p: Participant, time: u64) -> Participant
     ensures { λ r. ⌜ r ≡ agedTo p time ⌝ }
 {
     let before = p.table;
-    let table = expiry::expire(before, time);
+    let table = table_expiry::expire(before, time);
     let mut q = p;
     q.table = table;
     q.clock = time;

@@ -2,7 +2,7 @@
 use crate::Key;
 use crate::Participant;
 use crate::Slot;
-use members::Mi;
+use base_mi::Mi;
 ghost use mathlib.Core.Path.{_≡_};
 ghost use Rattle.participant.specs.Keys.{noSlot, slotOf, ofMember, isKey, withKey, withoutKeys};
 
@@ -28,7 +28,7 @@ pub fn of_member(s: Slot, m: Mi) -> bool
     if s.held {
         let k = s.key;
         let x = k.mi;
-        return members::same_mi(x, m);
+        return base_mi::same_mi(x, m);
     }
     false
 }

@@ -1,5 +1,5 @@
 // One participant by value: its record, plain numbers, flags, arrays and structs. Beside it its keys, and what a call answers.
-use members::Mi;
+use base_mi::Mi;
 use table::Table;
 
 pub mod call;

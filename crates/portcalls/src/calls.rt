@@ -5,16 +5,16 @@ use crate::state;
 use crate::state::Played;
 use crate::state::State;
 use crate::status;
-use changes::renew;
-use changes::report;
-use changes::tick;
-use octets::run;
+use base_octets::run;
+use call_changes::renew;
+use call_changes::report;
+use call_changes::tick;
+use call_receive::Answer as Heard;
+use call_send::Answer as Sent;
+use frame_writer::Wrote;
 use participant::Participant;
 use participant::call::Answer;
 use participant::call::Called;
-use receive::Answer as Heard;
-use send::Answer as Sent;
-use writer::Wrote;
 ghost use Prim.Native.Nat.{_≤_};
 
 // Whether a payload has the shape of its op's.
@@ -28,7 +28,7 @@ fn shaped(op: u8, d: &[u8]) -> bool {
         5 => n == 8,
         6 => n == 20,
         7 => {
-            let what = octets::octet(d, 0);
+            let what = base_octets::octet(d, 0);
             if n != 17 {
                 return false;
             }
@@ -47,14 +47,14 @@ fn shaped(op: u8, d: &[u8]) -> bool {
 
 // The payload from a place on.
 fn rest(d: &[u8], at: usize) -> &[u8] {
-    run::part(d, at, facts::less(d.len(), at))
+    run::part(d, at, base_facts::less(d.len(), at))
 }
 
 // The room at a place; over 2,048 counts as 2,048.
 fn room_at(d: &[u8], at: usize) -> usize
     ensures { λ r. ⌜ r ≤ 2048 ⌝ }
 {
-    facts::at_most(octets::u16_at(d, at) as usize, 2048)
+    base_facts::at_most(base_octets::u16_at(d, at) as usize, 2048)
 }
 
 fn octets(out: &mut [u8], word: &[u8], s: &[u8], len: usize) -> usize {
@@ -86,14 +86,14 @@ fn called(r: Called, out: &mut [u8], word: &[u8]) -> Played {
 }
 
 fn make(s: State, d: &[u8], out: &mut [u8]) -> Played {
-    let m = members::mi_at(d, 8);
-    let desired = octets::octet(d, 30) != 0;
-    let r = creation::create(
-        octets::u64_at(d, 0),
+    let m = base_mi::mi_at(d, 8);
+    let desired = base_octets::octet(d, 30) != 0;
+    let r = call_creation::create(
+        base_octets::u64_at(d, 0),
         m,
-        octets::u64_at(d, 20),
-        octets::octet(d, 28),
-        octets::octet(d, 29),
+        base_octets::u64_at(d, 20),
+        base_octets::octet(d, 28),
+        base_octets::octet(d, 29),
         desired,
         rest(d, 31),
     );
@@ -113,10 +113,10 @@ fn heard(a: Heard, out: &mut [u8]) -> usize {
 }
 
 fn hear(p: Participant, d: &[u8], out: &mut [u8]) -> Played {
-    let r = receive::receive(
+    let r = call_receive::receive(
         p,
-        octets::u64_at(d, 0),
-        octets::octet(d, 8) != 0,
+        base_octets::u64_at(d, 0),
+        base_octets::octet(d, 8) != 0,
         rest(d, 9),
     );
     let a = r.answer;
@@ -135,11 +135,11 @@ fn sent(a: Sent, frame: &[u8], out: &mut [u8]) -> usize {
 fn say(p: Participant, d: &[u8], out: &mut [u8]) -> Played {
     let mut frame = [0u8; 2048];
     let room = room_at(d, 8);
-    let r = send::send(
+    let r = call_send::send(
         p,
-        octets::u64_at(d, 0),
-        octets::u32_at(d, 10),
-        octets::u32_at(d, 14),
+        base_octets::u64_at(d, 0),
+        base_octets::u32_at(d, 10),
+        base_octets::u32_at(d, 14),
         &mut frame[..room],
     );
     let a = r.answer;
@@ -162,21 +162,26 @@ fn handed(r: Called, out: &mut [u8]) -> usize {
 }
 
 fn hand_out(p: Participant, d: &[u8], out: &mut [u8]) -> Played {
-    let r = distribute::distribute(p, octets::u64_at(d, 0), rest(d, 8));
+    let r = call_distribute::distribute(p, base_octets::u64_at(d, 0), rest(d, 8));
     let n = handed(r, out);
     let q = r.participant;
     state::with(q, n)
 }
 
 fn install(p: Participant, d: &[u8], out: &mut [u8]) -> Played {
-    let m = members::mi_at(d, 1);
-    let r = report::report(p, m, octets::u32_at(d, 13), octets::octet(d, 0) == 2);
+    let m = base_mi::mi_at(d, 1);
+    let r = report::report(
+        p,
+        m,
+        base_octets::u32_at(d, 13),
+        base_octets::octet(d, 0) == 2,
+    );
     called(r, out, b"reported\n")
 }
 
 fn rename(p: Participant, d: &[u8], out: &mut [u8]) -> Played {
-    let m = members::mi_at(d, 8);
-    let r = renew::new_mi(p, octets::u64_at(d, 0), m);
+    let m = base_mi::mi_at(d, 8);
+    let r = renew::new_mi(p, base_octets::u64_at(d, 0), m);
     called(r, out, b"renewed\n")
 }
 
@@ -201,7 +206,7 @@ fn act(p: Participant, op: u8, d: &[u8], out: &mut [u8]) -> Played {
         2 => hear(p, d, out),
         3 => say(p, d, out),
         4 => hand_out(p, d, out),
-        5 => called(tick::tick(p, octets::u64_at(d, 0)), out, b"ticked\n"),
+        5 => called(tick::tick(p, base_octets::u64_at(d, 0)), out, b"ticked\n"),
         6 => rename(p, d, out),
         7 => install(p, d, out),
         8 => {
@@ -221,7 +226,7 @@ pub(crate) fn play(s: State, op: u8, d: &[u8], out: &mut [u8]) -> Played {
         return make(s, d, out);
     }
     if op == 10 {
-        let n = print::line(out, 0, shown::show(d));
+        let n = print::line(out, 0, page_shown::show(d));
         return state::same(s, n);
     }
     if op == 11 {

@@ -1,13 +1,13 @@
 // The sets of a frame, as words.
 use crate::print;
+use base_mi::entry;
 use frame::BasicRead;
-use members::entry;
-use sets::Set;
-use sets::SetRead;
-use sets::kinds;
-use sets::kinds::KeyUse;
-use sets::kinds::Kind;
-use sets::kinds::SakHeader;
+use frame_sets::Set;
+use frame_sets::SetRead;
+use frame_sets::kinds;
+use frame_sets::kinds::KeyUse;
+use frame_sets::kinds::Kind;
+use frame_sets::kinds::SakHeader;
 
 fn number(r: BasicRead) -> u8 {
     match r {
@@ -87,7 +87,7 @@ fn word(out: &mut [u8], at: usize, frame: &[u8], s: Set) -> usize {
             if frame.len() < place {
                 return n;
             }
-            entries(out, n, frame, place + 4, sets::list_len(t, len))
+            entries(out, n, frame, place + 4, frame_sets::list_len(t, len))
         }
     }
 }
@@ -100,10 +100,10 @@ pub(crate) fn line(out: &mut [u8], frame: &[u8]) -> usize {
     };
     let stop = b.stop;
     let mut at = b.next;
-    let mut seen = places::none();
+    let mut seen = frame_places::none();
     let mut n = print::words(out, 0, b"sets");
     while at < stop {
-        let SetRead::Good(s) = sets::set_at(frame, at, stop, seen) else {
+        let SetRead::Good(s) = frame_sets::set_at(frame, at, stop, seen) else {
             n = print::words(out, n, b" bad");
             n = print::after(out, n, b'@', at as u64);
             return print::put(out, n, b'\n');
@@ -111,8 +111,8 @@ pub(crate) fn line(out: &mut [u8], frame: &[u8]) -> usize {
         let k = s.kind;
         let t = kinds::type_of(k);
         n = word(out, n, frame, s);
-        seen = places::with(seen, t, at, s.len);
-        at += sets::extent(t, s.len);
+        seen = frame_places::with(seen, t, at, s.len);
+        at += frame_sets::extent(t, s.len);
     }
     print::words(out, n, b" end\n")
 }

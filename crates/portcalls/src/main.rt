@@ -26,8 +26,8 @@ fn step(s: State, space: &mut [u8], out: &mut [u8]) -> Played {
     if got < 3 {
         return state::malformed(s, out);
     }
-    let op = octets::octet(&head, 0);
-    let n = octets::u16_at(&head, 1) as usize;
+    let op = base_octets::octet(&head, 0);
+    let n = base_octets::u16_at(&head, 1) as usize;
     if space.len() < n {
         return state::malformed(s, out);
     }

@@ -1,5 +1,5 @@
 // Text into a buffer, from a place on; each answers the next place.
-use members::Mi;
+use base_mi::Mi;
 use page::line::Line;
 
 pub(crate) fn put(out: &mut [u8], at: usize, x: u8) -> usize {
@@ -71,7 +71,7 @@ pub(crate) fn octets(out: &mut [u8], at: usize, s: &[u8], len: usize) -> usize {
     let mut n = at;
     let mut i = 0;
     while i < len {
-        n = hex(out, n, octets::octet(s, i) as u64, 2);
+        n = hex(out, n, base_octets::octet(s, i) as u64, 2);
         i += 1;
     }
     n

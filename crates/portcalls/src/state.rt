@@ -1,6 +1,6 @@
 // The participant that a script works on, if a create has succeeded, and what a record's playing gives.
 use crate::print;
-use members::Mi;
+use base_mi::Mi;
 use participant::Participant;
 use participant::call::Called;
 
@@ -17,7 +17,7 @@ pub(crate) struct Played {
 }
 
 pub(crate) fn none() -> State {
-    let r = creation::create(0, Mi { hi: 0, lo: 0 }, 0, 0, 0, false, &[]);
+    let r = call_creation::create(0, Mi { hi: 0, lo: 0 }, 0, 0, 0, false, &[]);
     let p = r.participant;
     State {
         held: false,

@@ -1,7 +1,7 @@
 // What a call costs: makes a participant by the first calls of a script, plays its last call n times, and prints a check line.
+use base_octets::run;
 use libc::STDIN_FILENO;
 use libc::STDOUT_FILENO;
-use octets::run;
 
 mod play;
 mod setup;
@@ -16,11 +16,11 @@ fn say(sum: u64) {
 
 // Records as in a call script; op 12 is the last, the number of plays in 4 octets with the op and the payload to play behind it.
 fn cost(script: &[u8]) {
-    let mut p = setup::nobody();
+    let mut p = setup::blank();
     let mut at: usize = 0;
     while at < script.len() {
-        let op = octets::octet(script, at);
-        let n = octets::u16_at(script, at + 1) as usize;
+        let op = base_octets::octet(script, at);
+        let n = base_octets::u16_at(script, at + 1) as usize;
         let d = run::part(script, at + 3, n);
         if op == 12 {
             say(play::often(p, d));

@@ -1,15 +1,15 @@
 // One call, played again and again on the same participant. What comes back goes into a sum, so that no play is idle.
 use crate::setup;
-use octets::run;
+use base_octets::run;
+use call_receive::Answer as Heard;
+use call_receive::Received;
+use call_send::Answer as Sending;
+use call_send::Sent;
+use frame_writer::Wrote;
 use participant::Participant;
 use participant::call::Answer;
 use participant::call::Called;
-use receive::Answer as Heard;
-use receive::Received;
-use send::Answer as Sending;
-use send::Sent;
 use std::num;
-use writer::Wrote;
 
 fn of_heard(r: Received) -> u64 {
     let q = r.participant;
@@ -33,7 +33,7 @@ fn hear_often(p: Participant, n: u32, time: u64, frame: &[u8]) -> u64 {
     let mut sum: u64 = 0;
     let mut i: u32 = 0;
     while i < n {
-        let r = receive::receive(p, time, true, frame);
+        let r = call_receive::receive(p, time, true, frame);
         sum = num::wrapping_add_u64(sum, of_heard(r));
         i += 1;
     }
@@ -45,7 +45,7 @@ fn send_often(p: Participant, n: u32, time: u64) -> u64 {
     let mut sum: u64 = 0;
     let mut i: u32 = 0;
     while i < n {
-        let r = send::send(p, time, 1, 1, &mut out);
+        let r = call_send::send(p, time, 1, 1, &mut out);
         sum = num::wrapping_add_u64(sum, of_sent(r));
         i += 1;
     }
@@ -85,7 +85,7 @@ fn read_often(p: Participant, n: u32) -> u64 {
     let mut sum: u64 = 0;
     let mut i: u32 = 0;
     while i < n {
-        let r = reading::read(run::part(&out, 0, len));
+        let r = image_reading::read(run::part(&out, 0, len));
         sum = num::wrapping_add_u64(sum, of_read(r));
         i += 1;
     }
@@ -94,9 +94,9 @@ fn read_often(p: Participant, n: u32) -> u64 {
 
 // `d` is n, an op, and its payload; a frame's verdict is yes, an image that is read is the participant's own.
 pub(crate) fn often(p: Participant, d: &[u8]) -> u64 {
-    let n = octets::u32_at(d, 0);
-    let time = octets::u64_at(d, 5);
-    match octets::octet(d, 4) {
+    let n = base_octets::u32_at(d, 0);
+    let time = base_octets::u64_at(d, 5);
+    match base_octets::octet(d, 4) {
         2 => hear_often(p, n, time, setup::rest(d, 14)),
         9 => save_often(p, n),
         10 => read_often(p, n),

@@ -14,5 +14,5 @@ fn say(l: Line) {
 fn main() {
     let mut space = io::buffer();
     let n = io::read_full(STDIN_FILENO, &mut space);
-    say(shown::show(&space[..n]));
+    say(page_shown::show(&space[..n]));
 }

@@ -6,7 +6,7 @@ use lib.ListN.{length, take, set}
 use lib.Dec.{ltb}
 use Rattle.table.specs.declared.Peer.{Peer}
 use Rattle.table.specs.declared.Table.{Table}
-use Rattle.lists.specs.Lists.{pad}
+use Rattle.law_lists.specs.Lists.{pad}
 
 abbrev pub room : ℕ
 room = 16

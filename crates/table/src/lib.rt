@@ -1,5 +1,5 @@
 // The peer table: at most 16 entries by value, in order of entry.
-use members::Mi;
+use base_mi::Mi;
 ghost use mathlib.Core.Path.{_≡_};
 ghost use Rattle.table.specs.Table.{blankPeer, emptyTable, pushed};
 

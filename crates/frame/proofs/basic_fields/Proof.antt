@@ -3,7 +3,7 @@ use Prim.Native.Nat.{_+_}
 use denote.Ref.{now}
 use Rattle.frame.specs.Basic.{basicFields}
 use lib.ListN.{getD}
-use Rattle.packed.specs.Basic.{flagsOf}
+use Rattle.base_packed.specs.Basic.{flagsOf}
 use borrow.Author.Needs.{needs}
 use Rattle.frame.proofs.basic_fields.Statement.{statement}
 use Rattle.frame.proofs.basic_fields.Tie as tie
@@ -57,7 +57,7 @@ returns c = let f : c .before .before .before .before .before .before .before .b
       mi = c .before .before .before .before .before .mi-at .ensures i;
       mn = c .before .before .before .before .u32-at .ensures i;
       agility = c .before .before .before .u32-at2 .ensures i;
-      ckn = c .before .before .less .ensures i;
+      size = c .before .before .less .ensures i;
       next = 8 + c .before .padded .ensures i;
       stop = c .less2 .ensures i;
     }

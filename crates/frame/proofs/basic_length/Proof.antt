@@ -1,6 +1,6 @@
 use mathlib.Core.Path.{ap, ap₂, _∙_}
 use Prim.Native.Nat.{ℕ, _+_, _*_, _%_}
-use Rattle.packed.specs.declared.basic.Flags.{Flags}
+use Rattle.base_packed.specs.declared.basic.Flags.{Flags}
 use borrow.Author.Needs.{needs}
 use Rattle.frame.proofs.basic_length.Statement.{statement}
 use Rattle.frame.proofs.basic_length.Tie as tie

@@ -1,7 +1,7 @@
 use mathlib.Core.Path.{sym, _∙_}
 use denote.Ref.{now}
 use Rattle.frame.specs.Basic.{fact3, fact4, fact5, basicOf}
-use Rattle.facts.proofs.Laws.{check-failed, check-passed}
+use Rattle.base_facts.proofs.Laws.{check-failed, check-passed}
 use Rattle.frame.proofs.Laws.{length-short, length-octets}
 use borrow.Author.Needs.{needs}
 use Rattle.frame.proofs.read_basic.Statement.{statement}

@@ -1,4 +1,4 @@
-use Rattle.packed.specs.Bit.{bit}
+use Rattle.base_packed.specs.Bit.{bit}
 use mathlib.Core.Bool.{Bool}
 use Prim.Native.Nat.{_*_}
 use mathlib.Core.Path.{ap, sym}

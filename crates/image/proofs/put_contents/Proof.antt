@@ -1,7 +1,7 @@
 use Rattle.image.specs.Image.{contentsFor}
-use Rattle.layout.proofs.Laws.{length-head, length-entry}
-use Rattle.layout.specs.Layout.{headOf, entryOf}
-use Rattle.octets.proofs.Stores.{sets-on}
+use Rattle.image_layout.proofs.Laws.{length-head, length-entry}
+use Rattle.image_layout.specs.Layout.{headOf, entryOf}
+use Rattle.base_octets.proofs.Stores.{sets-on}
 use denote.Ref.{now}
 use mathlib.Core.List.{_++_}
 use Prim.Native.Nat.{_+_, _*_}

@@ -1,10 +1,10 @@
 use Rattle.image.proofs.Laws.{length-entries, length-image, image-stored}
 use Rattle.image.specs.Image.{imageOf}
-use Rattle.writer.specs.declared.Wrote.the-variants.{Octets}
+use Rattle.frame_writer.specs.declared.Wrote.the-variants.{Octets}
 use Rattle.table.specs.Table.{entries}
-use Rattle.packed.specs.Bit.{bit}
-use Rattle.octets.proofs.Stores.{sets-whole}
-use Rattle.octets.specs.Run.{written}
+use Rattle.base_packed.specs.Bit.{bit}
+use Rattle.base_octets.proofs.Stores.{sets-whole}
+use Rattle.base_octets.specs.Run.{written}
 use lib.ListN.{length, length-map}
 use denote.Ref.{now}
 use Prim.Native.Nat.{ℕ, _+_, _*_, _<_, _≤_}

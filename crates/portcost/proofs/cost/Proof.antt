@@ -10,8 +10,8 @@ Inv-loop script p₀ at₀ p at = 0 ≤ at
 abbrev μ-loop : tie.MeasureT-loop
 μ-loop script p₀ at₀ p at = length script - at
 
-nobody-requires : tie.Need-nobody-requires Inv-loop μ-loop
-nobody-requires c κs = search needs
+blank-requires : tie.Need-blank-requires Inv-loop μ-loop
+blank-requires c κs = search needs
 
 loop-holds : tie.Need-loop-holds Inv-loop μ-loop
 loop-holds c = search needs
@@ -67,7 +67,7 @@ cost-spec =
     (tie.spec
     Inv-loop
     μ-loop
-    nobody-requires
+    blank-requires
     loop-holds
     octet-requires
     add-u16-at

@@ -2,7 +2,7 @@ use Prim.Native.Nat.{_+_, _-_, _<_, _^_}
 use mathlib.Core.Path.{_≡_, sym, _∙_}
 use lib.ListN.{length}
 use denote.Ref.{now}
-use Rattle.sets.proofs.Laws as rules
+use Rattle.frame_sets.proofs.Laws as rules
 use borrow.Author.Needs.{needs}
 use native.Mathlib.Omega.{arith}
 use Rattle.portcalls.proofs.listing.line.Statement.{statement}

@@ -1,0 +1,41 @@
+use mathlib.Core.Path.{sym, _∙_}
+use borrow.Author.Tests.{not-true, not-false}
+use borrow.Author.Needs.{needs}
+use Rattle.image_rules.specs.Rules.{rules}
+use Rattle.image_rules.proofs.hold.Statement.{statement}
+use Rattle.image_rules.proofs.hold.Tie as tie
+
+own-good-requires : tie.Need-own-good-requires
+own-good-requires c κs = search needs
+
+returns : tie.Need-returns
+unfolding rules
+returns c = rw (sym (c .before .own-good .ensures) ∙ not-true _ (c .if1 .taken))
+
+peers-good-requires : tie.Need-peers-good-requires
+peers-good-requires c κs = search needs
+
+returns-2 : tie.Need-returns-2
+unfolding rules
+returns-2 c =
+    rw (
+      sym (c .before .before .before .own-good .ensures) ∙ not-false _ (c .before .before .if1 .left),
+      sym (c .before .peers-good .ensures) ∙ not-true _ (c .if2 .taken),
+    )
+
+keys-good-requires : tie.Need-keys-good-requires
+keys-good-requires c κs = search needs
+
+returns-3 : tie.Need-returns-3
+unfolding rules
+returns-3 c =
+    rw (
+      sym (c .before .before .before .before .own-good .ensures) ∙ not-false _ (c .before .before .before .if1 .left),
+      sym (c .before .before .peers-good .ensures) ∙ not-false _ (c .before .if2 .left),
+    )
+    (c .keys-good .ensures)
+
+pub hold-spec : {M : Type 1} → statement M
+hold-spec =
+    tie.close
+    (tie.spec own-good-requires returns peers-good-requires returns-2 keys-good-requires returns-3)

@@ -1,0 +1,169 @@
+-- "Bench cases": the starred ones as one table, and the one theorem over it.
+use Prim.Native.Nat.{ℕ}
+use mathlib.Core.Path.{_≡_, refl}
+use mathlib.Core.Bool.{Bool, true, false}
+use mathlib.Core.List.{List, [], _∷_, _++_, map}
+use lib.ListN.{replicate, set}
+use Rattle.base_octets.specs.Number.{beAt, beOf}
+use Rattle.base_octets.specs.Run.{written}
+use Rattle.base_mi.specs.Mi.{miAt, miOctets}
+use Rattle.base_mi.specs.Entry.{entryAt}
+use Rattle.frame.specs.Basic.{basicFields, basicOf}
+use Rattle.frame.specs.Ours.{sameAt, fact6}
+use Rattle.frame_places.specs.Once.{holds, placesWith}
+use Rattle.frame_sets.specs.Set.{lenAt, listLen, badBody, badShape, badHead, badSet, extentOf}
+use Rattle.frame_walk.specs.List.{entriesFrom, listAt, entriesIn}
+use Rattle.frame_walk.specs.Walk.{walkGo, walkFrom, walkOf}
+use Rattle.table_expiry.specs.Expiry.{rebuilt, expired}
+use Rattle.table_lookup.specs.Look.{heldIn}
+use Rattle.table_enter.specs.Enter.{updated, replaced, enteredAt}
+use Rattle.table.specs.Table.{emptyTable, pushed}
+use Rattle.table_counts.specs.Counts.{liveCount, liveList, potentialList}
+use Rattle.table_election.specs.Elect.{elected}
+use Rattle.table_election.specs.declared.Server.the-variants.{Nobody, Ourselves, Elected}
+use Rattle.frame_writer.specs.Frame.{headerOctets, fixedOctets, cknOctets, basicOctets, listSet, listOctets, bodyOctets, frameOf}
+use Rattle.call_questions.specs.Ask.{serverOf, electedSelf}
+use Rattle.participant.specs.Call.{agedTo, ticked}
+use Rattle.call_creation.specs.Create.{fresh, emptyParticipant, createdOf}
+use Rattle.participant.specs.Record.{setMn}
+use Rattle.participant.specs.Keys.{noSlot, ofMember}
+use Rattle.participant.specs.declared.Participant.{Participant}
+use Rattle.call_judge.specs.Judge.{frameFacts}
+use Rattle.call_hearing.specs.Keys.{keyedOf}
+use Rattle.call_hearing.specs.Proof.{isRecent, namedIn, provesIn}
+use Rattle.call_receive.specs.Receive.{heardOf, admitted, tableFacts, receiveFacts, updatedBy, acceptedBy, receivedOf}
+use Rattle.call_send.specs.Message.{keyUseOf, serverFlag, handsOut, senderOf, sakOf, messageOf}
+use Rattle.call_send.specs.Send.{frameAt, sendFacts, sentAt, sentOf, leftBy}
+use Rattle.image_layout.specs.Layout.{headOf, entryOf, bodies, laidOf}
+use Rattle.image_layout.specs.Layout as layout
+use Rattle.image_own.specs.Own.{namedOctets, timesOctets, keptOctets, ownOctets}
+use Rattle.image_peer.specs.Peer.{peersOctets}
+use Rattle.image.specs.Image.{ownPart, peersPart, keysPart, imageOf}
+use Rattle.law_history.specs.Calls.{Call, created, toCall, toReceive, receives, sends, ticks, after}
+use Rattle.law_cases.specs.Row.{Row, row, Outcome, accepted, refused, octets, number, yes-no, elects, ended, basicEnded}
+use Rattle.law_cases.specs.Image.{imageCases}
+use Rattle.law_cases.specs.Setting.{twelve, ofPriority, case1, first, frame, naming, sentOnce, crowded, comes, isLive, live, potential}
+
+-- "MI 11 twelve times, SCI 02-00-00-00-00-01-00-01, .." is accepted, and its image begins as it says.
+abbrev pub cases1 : List Row
+cases1 = row 1 accepted (ended (toCall (created case1 .answer))) ∷ imageCases
+
+-- "Its first send is 56 octets: 03 05 00 34, 01 10 E0 20, SCI, MI, 00 00 00 01, 00 80 C2 01, 41 42 43 44, sixteen zeros. Room 55: refusal 13."
+abbrev pub firstFrame : List ℕ
+firstFrame =
+    0x03 ∷ 0x05 ∷ 0x00 ∷ 0x34 ∷ 0x01 ∷ 0x10 ∷ 0xe0 ∷ 0x20
+    ∷ 0x02 ∷ 0x00 ∷ 0x00 ∷ 0x00 ∷ 0x00 ∷ 0x01 ∷ 0x00 ∷ 0x01
+    ∷ 0x11 ∷ 0x11 ∷ 0x11 ∷ 0x11 ∷ 0x11 ∷ 0x11 ∷ 0x11 ∷ 0x11 ∷ 0x11 ∷ 0x11 ∷ 0x11 ∷ 0x11
+    ∷ 0x00 ∷ 0x00 ∷ 0x00 ∷ 0x01 ∷ 0x00 ∷ 0x80 ∷ 0xc2 ∷ 0x01 ∷ 0x41 ∷ 0x42 ∷ 0x43 ∷ 0x44
+    ∷ 0x00 ∷ 0x00 ∷ 0x00 ∷ 0x00 ∷ 0x00 ∷ 0x00 ∷ 0x00 ∷ 0x00 ∷ 0x00 ∷ 0x00 ∷ 0x00 ∷ 0x00 ∷ 0x00 ∷ 0x00 ∷ 0x00 ∷ 0x00 ∷ []
+
+abbrev pub cases2 : List Row
+cases2 =
+    row 2 (number 56) (comes [] (sends 0 0 0 (replicate 56 0xff)))
+    ∷ row 2 (octets firstFrame) (octets (leftBy first 0 0 0 (replicate 56 0xff)))
+    ∷ row 2 (octets (firstFrame ++ (0xff ∷ []))) (octets (leftBy first 0 0 0 (replicate 57 0xff)))
+    ∷ row 2 (refused 13) (comes [] (sends 0 0 0 (replicate 55 0xff)))
+    ∷ row 2 (octets (replicate 55 0xff)) (octets (leftBy first 0 0 0 (replicate 55 0xff)))
+    ∷ []
+
+-- "Last sent 7: echoes 4 to 7 are recent, 3 and 8 not. Last sent 2: 1 and 2 are, 0 not.": by the definition, and by who is Live after such an echo
+abbrev pub echo : ℕ → ℕ → Bool → List Row
+echo last mn recent =
+    row 3 (yes-no recent) (yes-no (isRecent mn last))
+    ∷ row 3 (yes-no recent) (yes-no (isLive (receivedOf (setMn last first) 0 true (frame 0x22 2 16 1 (naming mn)) .participant)))
+    ∷ []
+
+abbrev pub cases3 : List Row
+cases3 =
+    echo 7 4 true ++ (echo 7 5 true ++ (echo 7 6 true ++ (echo 7 7 true ++ (echo 7 3 false ++ (echo 7 8 false
+    ++ (echo 2 1 true ++ (echo 2 2 true ++ echo 2 0 false)))))))
+
+-- "Proof at 1,000: Live at 6,999, not at 7,000.": also where a frame without our number came in between, which only keeps the entry
+abbrev pub proof : List Call
+proof = receives 1000 true (frame 0x22 2 16 1 (naming 1)) ∷ sentOnce
+
+abbrev pub keptAlive : List Call
+keptAlive = receives 2000 true (frame 0x22 2 16 2 []) ∷ proof
+
+abbrev pub cases4 : List Row
+cases4 =
+    row 4 (yes-no true) (live (ticks 6999 ∷ proof))
+    ∷ row 4 (yes-no false) (live (ticks 7000 ∷ proof))
+    ∷ row 4 (yes-no true) (live (ticks 6999 ∷ keptAlive))
+    ∷ row 4 (yes-no false) (live (ticks 7000 ∷ keptAlive))
+    ∷ row 4 (yes-no true) (potential (ticks 7000 ∷ keptAlive))
+    ∷ []
+
+-- "Same frame twice at once: second gets 11. At 6,000 ms later: accepted."
+abbrev pub again : ℕ → Call
+again time = receives time true (frame 0x22 2 16 1 [])
+
+abbrev pub cases5 : List Row
+cases5 =
+    row 5 accepted (comes [] (again 0))
+    ∷ row 5 (refused 11) (comes (again 0 ∷ []) (again 0))
+    ∷ row 5 (refused 11) (comes (again 0 ∷ []) (again 5999))
+    ∷ row 5 accepted (comes (again 0 ∷ []) (again 6000))
+    ∷ []
+
+-- "Priorities 16 and 16: lower SCI. Only 255s: nobody.": case 1's participant with a priority, its SCI ending in 1, and Live peers
+-- with a priority, their SCIs ending in a port
+abbrev pub peer : ℕ → ℕ → ℕ → Call
+peer m port priority = receives 0 true (frame m port priority 1 (naming 1))
+
+abbrev pub beside : ℕ → List Call → Participant
+beside own peers = after (ofPriority own) (peers ++ sentOnce)
+
+abbrev pub chosen : ℕ → List Call → Outcome
+chosen own peers = elects (serverOf (beside own peers))
+
+abbrev pub two255s : List Call
+two255s = peer 0x22 2 255 ∷ peer 0x21 0 255 ∷ []
+
+abbrev pub cases6 : List Row
+cases6 =
+    row 6 (elects Ourselves) (chosen 16 (peer 0x22 2 16 ∷ []))
+    ∷ row 6 (elects (Elected (twelve 0x22))) (chosen 16 (peer 0x22 0 16 ∷ []))
+    ∷ row 6 (elects (Elected (twelve 0x22))) (chosen 17 (peer 0x22 2 16 ∷ peer 0x21 3 16 ∷ []))
+    ∷ row 6 (elects (Elected (twelve 0x22))) (chosen 17 (peer 0x21 3 16 ∷ peer 0x22 2 16 ∷ []))
+    ∷ row 6 (elects Nobody) (chosen 255 (peer 0x22 2 255 ∷ []))
+    ∷ row 6 (elects Nobody) (chosen 255 two255s)
+    ∷ row 6 (number 2) (number (liveCount (beside 255 two255s .table)))
+    ∷ []
+
+-- "Basic length 28: 5. List body 8: 9."
+abbrev pub short : List ℕ
+short = set (frame 0x22 2 16 1 []) 7 28
+
+abbrev pub cases7 : List Row
+cases7 =
+    row 7 (refused 5) (basicEnded (basicOf short))
+    ∷ row 7 (refused 5) (comes [] (receives 0 true short))
+    ∷ row 7 (refused 9) (comes [] (receives 0 true (frame 0x22 2 16 1 (1 ∷ 0 ∷ 0 ∷ 8 ∷ replicate 8 0x11))))
+    ∷ row 7 (refused 9) (comes [] (receives 0 true (frame 0x22 2 16 1 (2 ∷ 0 ∷ 0 ∷ 8 ∷ replicate 8 0x11))))
+    ∷ []
+
+-- "Seventeenth MI: 12; if one of the sixteen expires at that time, accepted.": they came one every millisecond from 0 on
+abbrev pub arriving : ℕ → ℕ → Outcome
+arriving held time = ended (toReceive (receivedOf (crowded held) time true (frame 0x22 2 16 1 []) .answer))
+
+abbrev pub cases8 : List Row
+cases8 =
+    row 8 accepted (arriving 15 16)
+    ∷ row 8 (refused 12) (arriving 16 16)
+    ∷ row 8 (refused 12) (arriving 16 5999)
+    ∷ row 8 accepted (arriving 16 6000)
+    ∷ []
+
+abbrev pub bench : List Row
+bench = cases1 ++ (cases2 ++ (cases3 ++ (cases4 ++ (cases5 ++ (cases6 ++ (cases7 ++ cases8))))))
+
+-- Every row's definitions give what the case says.
+pub all-cases : map (λ r. r .given) bench ≡ map (λ r. r .expected) bench
+unfolding created createdOf fresh emptyParticipant noSlot emptyTable beAt beOf written miOctets basicFields basicOf miAt liveList potentialList liveCount elected
+    headerOctets fixedOctets cknOctets basicOctets listSet listOctets bodyOctets frameOf serverOf electedSelf agedTo expired rebuilt ofMember keyUseOf
+    serverFlag handsOut senderOf sakOf messageOf frameAt sendFacts sentAt sentOf leftBy sameAt fact6 holds placesWith lenAt listLen badBody badShape
+    badHead badSet extentOf entryAt entriesFrom listAt entriesIn walkGo walkFrom walkOf heldIn updated replaced enteredAt pushed frameFacts keyedOf
+    isRecent namedIn provesIn heardOf admitted tableFacts receiveFacts updatedBy acceptedBy receivedOf ticked headOf entryOf
+    layout.entriesFrom bodies laidOf namedOctets timesOctets keptOctets ownOctets peersOctets ownPart peersPart keysPart imageOf
+all-cases = refl

@@ -1,0 +1,88 @@
+-- The table gone through once and changed in its place: the fast forms say what looking up, ageing and entering say.
+use Prim.Native.Nat.{ℕ, _+_, _-_, _≤_, _<_, min}
+use mathlib.Core.Path.{_≡_, refl, sym, _∙_}
+use mathlib.Core.Bool.{Bool, true, false, cond}
+use mathlib.Core.List.{List}
+use native.Mathlib.Omega.{arith}
+use lib.ListN.{length, getD, set, take, drop}
+use lib.Dec.{leb, eqb}
+use borrow.Author.Tests.{lt-ltb, le-ltb, le-leb, lt-leb, leb-true, leb-false, ne-eqb, eqb-false}
+use Rattle.base_mi.specs.declared.Mi.{Mi}
+use Rattle.base_mi.specs.Mi.{miSame}
+use Rattle.table.specs.declared.Peer.{Peer}
+use Rattle.table.specs.declared.Table.{Table}
+use Rattle.table_lookup.specs.declared.Held.{Held}
+use Rattle.table_lookup.specs.declared.Held.the-variants.{At, Missing}
+use Rattle.table_enter.specs.declared.Heard.{Heard}
+use Rattle.table.specs.Table.{room, blankPeer, pushed}
+use Rattle.table_expiry.specs.Expiry.{freshAt, stillPeer, steadyIn, oldestAt, stillFrom}
+use Rattle.table_lookup.specs.Look.{seek, firstAt, foundAt, noRoomFor}
+use Rattle.table_enter.specs.Enter.{heldPeer, updated, replaced, enteredAt, placeFor, grownBy}
+use Rattle.law_lists.specs.Laws.{by-cases, loop-next, drop-end}
+
+-- less than a life time old is not from before the oldest such time
+pub fresh-from : (time at : ℕ) → leb (oldestAt time) at ≡ freshAt time at
+fresh-from time at =
+    by-cases (leb (time - 5999) at)
+    (λ e. rw (e, lt-ltb (time - at) 6000 (omega (arith, leb-true (time - 5999) at e))))
+    (λ e. rw (e, le-ltb (time - at) 6000 (omega (arith, leb-false (time - 5999) at e))))
+
+pub still-from : (time : ℕ) (p : Peer) → stillFrom (oldestAt time) p ≡ stillPeer time p
+still-from time p =
+    by-cases (p .proven)
+    (λ e. rw (e, fresh-from time (p .accepted), fresh-from time (p .proof)) (by-cases (freshAt time (p .proof)) (λ f. rw f) (λ f. rw f)))
+    (λ e. rw (e, fresh-from time (p .accepted)))
+
+-- what has been found so far, where the entries of `left` from i on are left: `p` is the entry at `at`
+abbrev pub sought : Mi → ℕ → ℕ → ℕ → Peer → List Peer → Held
+sought m at n i p left = cond (eqb at n) (seek m i left) (At at p)
+
+pub first-below : (at n i : ℕ) (m : Mi) (p : Peer) → at ≤ n → i < n → firstAt at n i m p ≤ n
+first-below at n i m p le lt =
+    by-cases (eqb at n)
+    (λ a. by-cases (miSame m (p .mi)) (λ b. rw (a, b) (omega arith)) (λ b. rw (a, b) le))
+    (λ a. rw a le)
+
+module _ (n : ℕ) (l : List Peer) (count : ℕ) (whole : length l ≡ 16) (few : n ≡ min count 16) where
+  -- one turn of the loop that ages and looks up
+  pub steady-turn : (time i : ℕ) → i < n → stillFrom (oldestAt time) (getD l i blankPeer) ≡ true
+      → steadyIn time (drop i (take n l)) ≡ steadyIn time (drop (i + 1) (take n l))
+  steady-turn time i lt e = rw (loop-next n i l count blankPeer whole few lt, sym (still-from time (getD l i blankPeer)) ∙ e)
+
+  pub sought-turn : (m : Mi) (at i : ℕ) (h : Held) → i < n → sought m at n i (getD l at blankPeer) (drop i (take n l)) ≡ h
+      → sought m (firstAt at n i m (getD l i blankPeer)) n (i + 1) (getD l (firstAt at n i m (getD l i blankPeer)) blankPeer) (drop (i + 1) (take n l)) ≡ h
+  sought-turn m at i h lt e =
+      let e′ = rw (loop-next n i l count blankPeer whole few lt) at e in
+      by-cases (eqb at n)
+      (λ a.
+      by-cases (miSame m (getD l i blankPeer .mi))
+      (λ b. rw (a, b, ne-eqb i n (omega arith)) (rw (a, b) at e′))
+      (λ b. rw (a, b, a) (rw (a, b) at e′)))
+      (λ a. rw (a, a) (rw a at e′))
+
+  -- after its last turn
+  pub sought-end : (m : Mi) (at i : ℕ) (h : Held) → n ≤ i → at ≤ n → sought m at n i (getD l at blankPeer) (drop i (take n l)) ≡ h
+      → foundAt at n (getD l (min at 15) blankPeer) ≡ h
+  sought-end m at i h end le e =
+      let e′ = rw (drop-end n i l end) at e in
+      by-cases (eqb at n)
+      (λ a. rw a (rw a at e′))
+      (λ a.
+      let ne = eqb-false at n a in
+      let k : min at 15 ≡ at = omega (arith, ne) in
+      rw (a, k) (rw a at e′))
+
+-- the entry is stored in one place, and the count is that of `grownBy`
+pub in-place : (held : Held) (h : Heard) (proves : Bool) (time : ℕ) (t : Table) → noRoomFor held t ≡ false
+    → enteredAt held h proves time t
+    ≡ record { peers = set (t .peers) (placeFor held (t .count)) (updated (heldPeer held) h proves time); count = grownBy held (t .count) }
+unfolding enteredAt replaced pushed
+in-place (At i p) h proves time t e = refl
+in-place Missing h proves time t e = rw (lt-ltb (t .count) 16 (leb-false 16 (t .count) e))
+
+-- and that place is one of the 16
+pub place-fits : (at n : ℕ) (p : Peer) (t : Table) → at ≤ n → n ≤ 16 → noRoomFor (foundAt at n p) t ≡ false → placeFor (foundAt at n p) (t .count) < 16
+place-fits at n p t le few e =
+    by-cases (eqb at n)
+    (λ a. rw a (leb-false 16 (t .count) (rw a at e)))
+    (λ a. let ne = eqb-false at n a in rw a (omega (arith, ne)))

@@ -1,0 +1,27 @@
+-- The public functions of `call_questions`. Written by tools/unique.
+use Rattle.call_questions.proofs as call_questions
+use Rattle.law_unique.specs.Law.{OneAnswer, same}
+
+pub call-questions·server : OneAnswer call_questions.server.Kinds.ps call_questions.server.Kinds.r call_questions.server.Reads.Learnt
+call-questions·server κs a z z′ e e′ h h′ = same h h′
+
+pub call-questions·elected-self : OneAnswer call_questions.elected_self.Kinds.ps call_questions.elected_self.Kinds.r call_questions.elected_self.Reads.Learnt
+call-questions·elected-self κs a z z′ e e′ h h′ = same h h′
+
+pub call-questions·fresh-due : OneAnswer call_questions.fresh_due.Kinds.ps call_questions.fresh_due.Kinds.r call_questions.fresh_due.Reads.Learnt
+call-questions·fresh-due κs a z z′ e e′ h h′ = same h h′
+
+pub call-questions·hello-due : OneAnswer call_questions.hello_due.Kinds.ps call_questions.hello_due.Kinds.r call_questions.hello_due.Reads.Learnt
+call-questions·hello-due κs a z z′ e e′ h h′ = same h h′
+
+pub call-questions·is-live : OneAnswer call_questions.is_live.Kinds.ps call_questions.is_live.Kinds.r call_questions.is_live.Reads.Learnt
+call-questions·is-live κs a z z′ e e′ h h′ = same h h′
+
+pub call-questions·is-potential : OneAnswer call_questions.is_potential.Kinds.ps call_questions.is_potential.Kinds.r call_questions.is_potential.Reads.Learnt
+call-questions·is-potential κs a z z′ e e′ h h′ = same h h′
+
+pub call-questions·live-count : OneAnswer call_questions.live_count.Kinds.ps call_questions.live_count.Kinds.r call_questions.live_count.Reads.Learnt
+call-questions·live-count κs a z z′ e e′ h h′ = same h h′
+
+pub call-questions·potential-count : OneAnswer call_questions.potential_count.Kinds.ps call_questions.potential_count.Kinds.r call_questions.potential_count.Reads.Learnt
+call-questions·potential-count κs a z z′ e e′ h h′ = same h h′

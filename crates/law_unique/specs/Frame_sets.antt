@@ -1,0 +1,21 @@
+-- The public functions of `frame_sets`. Written by tools/unique.
+use Rattle.frame_sets.proofs as frame_sets
+use Rattle.law_unique.specs.Law.{OneAnswer, same}
+
+pub frame-sets·kinds·sak-at : OneAnswer frame_sets.kinds.sak_at.Kinds.ps frame_sets.kinds.sak_at.Kinds.r frame_sets.kinds.sak_at.Reads.Learnt
+frame-sets·kinds·sak-at κs a z z′ e e′ h h′ = same h h′
+
+pub frame-sets·kinds·type-of : OneAnswer frame_sets.kinds.type_of.Kinds.ps frame_sets.kinds.type_of.Kinds.r frame_sets.kinds.type_of.Reads.Learnt
+frame-sets·kinds·type-of κs a z z′ e e′ h h′ = same h h′
+
+pub frame-sets·set-head : OneAnswer frame_sets.set_head.Kinds.ps frame_sets.set_head.Kinds.r frame_sets.set_head.Reads.Learnt
+frame-sets·set-head κs a z z′ e e′ h h′ = same h h′
+
+pub frame-sets·list-len : OneAnswer frame_sets.list_len.Kinds.ps frame_sets.list_len.Kinds.r frame_sets.list_len.Reads.Learnt
+frame-sets·list-len κs a z z′ e e′ h h′ = same h h′
+
+pub frame-sets·set-at : OneAnswer frame_sets.set_at.Kinds.ps frame_sets.set_at.Kinds.r frame_sets.set_at.Reads.Learnt
+frame-sets·set-at κs a z z′ e e′ h h′ = same h h′
+
+pub frame-sets·extent : OneAnswer frame_sets.extent.Kinds.ps frame_sets.extent.Kinds.r frame_sets.extent.Reads.Learnt
+frame-sets·extent κs a z z′ e e′ h h′ = same h h′

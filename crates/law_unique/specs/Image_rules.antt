@@ -1,0 +1,6 @@
+-- The public functions of `image_rules`. Written by tools/unique.
+use Rattle.image_rules.proofs as image_rules
+use Rattle.law_unique.specs.Law.{OneAnswer, same}
+
+pub image-rules·hold : OneAnswer image_rules.hold.Kinds.ps image_rules.hold.Kinds.r image_rules.hold.Reads.Learnt
+image-rules·hold κs a z z′ e e′ h h′ = same h h′

@@ -1,0 +1,12 @@
+-- The public functions of `page`. Written by tools/unique.
+use Rattle.page.proofs as page
+use Rattle.law_unique.specs.Law.{OneAnswer, same}
+
+pub page·status : OneAnswer page.status.Kinds.ps page.status.Kinds.r page.status.Reads.Learnt
+page·status κs a z z′ e e′ h h′ = same h h′
+
+pub page·line·ended : OneAnswer page.line.ended.Kinds.ps page.line.ended.Kinds.r page.line.ended.Reads.Learnt
+page·line·ended κs a z z′ e e′ h h′ = same h h′
+
+pub page·line·refused : OneAnswer page.line.refused.Kinds.ps page.line.refused.Kinds.r page.line.refused.Reads.Learnt
+page·line·refused κs a z z′ e e′ h h′ = same h h′

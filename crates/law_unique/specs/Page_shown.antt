@@ -1,0 +1,6 @@
+-- The public functions of `page_shown`. Written by tools/unique.
+use Rattle.page_shown.proofs as page_shown
+use Rattle.law_unique.specs.Law.{OneAnswer, same}
+
+pub page-shown·show : OneAnswer page_shown.show.Kinds.ps page_shown.show.Kinds.r page_shown.show.Reads.Learnt
+page-shown·show κs a z z′ e e′ h h′ = same h h′

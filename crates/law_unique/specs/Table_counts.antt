@@ -1,0 +1,15 @@
+-- The public functions of `table_counts`. Written by tools/unique.
+use Rattle.table_counts.proofs as table_counts
+use Rattle.law_unique.specs.Law.{OneAnswer, same}
+
+pub table-counts·live-count : OneAnswer table_counts.live_count.Kinds.ps table_counts.live_count.Kinds.r table_counts.live_count.Reads.Learnt
+table-counts·live-count κs a z z′ e e′ h h′ = same h h′
+
+pub table-counts·potential-count : OneAnswer table_counts.potential_count.Kinds.ps table_counts.potential_count.Kinds.r table_counts.potential_count.Reads.Learnt
+table-counts·potential-count κs a z z′ e e′ h h′ = same h h′
+
+pub table-counts·live-list : OneAnswer table_counts.live_list.Kinds.ps table_counts.live_list.Kinds.r table_counts.live_list.Reads.Learnt
+table-counts·live-list κs a z z′ e e′ h h′ = same h h′
+
+pub table-counts·potential-list : OneAnswer table_counts.potential_list.Kinds.ps table_counts.potential_list.Kinds.r table_counts.potential_list.Reads.Learnt
+table-counts·potential-list κs a z z′ e e′ h h′ = same h h′

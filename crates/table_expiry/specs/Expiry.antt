@@ -1,0 +1,67 @@
+-- "Each timed call first expires": what a time leaves of the table.
+use Prim.Native.Nat.{ℕ, _-_}
+use mathlib.Core.Bool.{Bool, false, cond, not, _&&_, _||_}
+use mathlib.Core.List.{List, map}
+use lib.Dec.{ltb, leb}
+use Rattle.table.specs.declared.Peer.{Peer}
+use Rattle.table.specs.declared.Table.{Table}
+use Rattle.law_lists.specs.Lists.{those, every}
+use Rattle.table.specs.Table.{entries, tableOf}
+
+-- "Life time 6,000"
+abbrev pub lifeTime : ℕ
+lifeTime = 6000
+
+-- At a time, what happened at `at` is less than a life time old.
+abbrev pub freshAt : ℕ → ℕ → Bool
+freshAt time at = ltb (time - at) lifeTime
+
+abbrev pub freshPeer : ℕ → Peer → Bool
+freshPeer time p = freshAt time (p .accepted)
+
+-- "one whose last proof is that old"
+abbrev pub lapsed : ℕ → Peer → Bool
+lapsed time p = p .proven && not (freshAt time (p .proof))
+
+abbrev pub unproven : Peer → Peer
+unproven p = record {
+  mi = p .mi;
+  mn = p .mn;
+  sci = p .sci;
+  accepted = p .accepted;
+  proof = 0;
+  priority = p .priority;
+  capability = p .capability;
+  server = p .server;
+  desired = p .desired;
+  proven = false;
+}
+
+-- ".. loses its proof"
+abbrev pub agedPeer : ℕ → Peer → Peer
+agedPeer time p = cond (lapsed time p) (unproven p) p
+
+-- "an entry whose last accepted frame is 6,000 ms or more old is removed; one whose last proof is that old loses its proof"
+abbrev pub agedList : ℕ → List Peer → List Peer
+agedList time l = map (agedPeer time) (those (freshPeer time) l)
+
+-- Nothing of an entry is old.
+abbrev pub stillPeer : ℕ → Peer → Bool
+stillPeer time p = freshPeer time p && not (lapsed time p)
+
+abbrev pub steadyIn : ℕ → List Peer → Bool
+steadyIn time l = every (stillPeer time) l
+
+-- The same by one comparison each: the earliest time that is less than a life time old, and nothing of an entry is from before it.
+abbrev pub oldestAt : ℕ → ℕ
+oldestAt time = time - 5999
+
+abbrev pub stillFrom : ℕ → Peer → Bool
+stillFrom from p = leb from (p .accepted) && (not (p .proven) || leb from (p .proof))
+
+unfoldable pub rebuilt : ℕ → Table → Table
+rebuilt time t = tableOf (agedList time (entries t))
+
+-- The table at a time. One in which nothing expires comes back as it is.
+unfoldable pub expired : ℕ → Table → Table
+expired time t = cond (steadyIn time (entries t)) t (rebuilt time t)

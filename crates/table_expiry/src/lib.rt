@@ -1,0 +1,125 @@
+// Expiry of the peer table at a time: old entries go, old proofs are lost, the order stays and the gap closes. Every function is
+// total, also on a table that no call would make.
+use table::Peer;
+use table::ROOM;
+use table::Table;
+ghost use mathlib.Core.Path.{_≡_};
+ghost use Rattle.table.specs.Table.{entries};
+ghost use Rattle.table_expiry.specs.Expiry.{freshAt, lapsed, agedPeer, stillPeer, steadyIn, rebuilt, expired, oldestAt, stillFrom};
+
+// The life time in milliseconds.
+pub const LIFE: u64 = 6000;
+
+// Whether what happened at `at` is less than a life time old at `time`.
+pub fn fresh(time: u64, at: u64) -> bool
+    ensures { λ r. ⌜ r ≡ freshAt time at ⌝ }
+{
+    if time <= at {
+        return true;
+    }
+    time - at < LIFE
+}
+
+// Whether there is a proof and it is old.
+fn lapse(p: Peer, time: u64) -> bool
+    ensures { λ r. ⌜ r ≡ lapsed time p ⌝ }
+{
+    if p.proven {
+        return !fresh(time, p.proof);
+    }
+    false
+}
+
+// The entry, without its proof where that is old.
+fn aged(p: Peer, time: u64) -> Peer
+    ensures { λ r. ⌜ r ≡ agedPeer time p ⌝ }
+{
+    if lapse(p, time) {
+        let mut q = p;
+        q.proof = 0;
+        q.proven = false;
+        return q;
+    }
+    p
+}
+
+// Whether nothing of the entry is old.
+fn still(p: Peer, time: u64) -> bool
+    ensures { λ r. ⌜ r ≡ stillPeer time p ⌝ }
+{
+    if fresh(time, p.accepted) {
+        return !lapse(p, time);
+    }
+    false
+}
+
+// The earliest time that is less than a life time before `time`.
+pub fn oldest(time: u64) -> u64
+    ensures { λ r. ⌜ r ≡ oldestAt time ⌝ }
+{
+    if time < LIFE {
+        return 0;
+    }
+    time - (LIFE - 1)
+}
+
+// Whether nothing of the entry is from before `from`.
+pub fn still_from(p: Peer, from: u64) -> bool
+    ensures { λ r. ⌜ r ≡ stillFrom from p ⌝ }
+{
+    if p.accepted < from {
+        return false;
+    }
+    if p.proven {
+        return from <= p.proof;
+    }
+    true
+}
+
+fn steady(t: Table, time: u64) -> bool
+    ensures { λ r. ⌜ r ≡ steadyIn time (entries t) ⌝ }
+{
+    let peers = t.peers;
+    let n = base_facts::at_most(t.count, ROOM);
+    let mut i: usize = 0;
+    while i < n {
+        let p = peers[i];
+        if !still(p, time) {
+            return false;
+        }
+        i += 1;
+    }
+    true
+}
+
+fn rebuild(t: Table, time: u64) -> Table
+    ensures { λ r. ⌜ r ≡ rebuilt time t ⌝ }
+{
+    let old = t.peers;
+    let n = base_facts::at_most(t.count, ROOM);
+    let mut out = [table::blank(); ROOM];
+    let mut k: usize = 0;
+    let mut i: usize = 0;
+    while i < n {
+        let p = old[i];
+        if fresh(time, p.accepted) {
+            out[k] = aged(p, time);
+            k += 1;
+        }
+        i += 1;
+    }
+    Table {
+        peers: out,
+        count: k,
+    }
+}
+
+// A table in which nothing expires comes back as it is.
+pub fn expire(t: Table, time: u64) -> Table
+    ensures { λ r. ⌜ r ≡ expired time t ⌝ }
+{
+    if steady(t, time) {
+        return t;
+    }
+    rebuild(t, time)
+}

@@ -1,165 +1,181 @@
 //! The program: plays call scripts, makes them, and compares.
 
+mod args;
+
 use std::io::{self, Read, Write};
-use std::ops::Range;
 use std::process::ExitCode;
 
-use second::compare::{compare, count_reach, mutants, Runs};
+use args::Args;
+use second::compare::{compare, Failure};
 use second::cost::cost;
-use second::gen::{generate, Kind};
+use second::gen::generate;
+use second::mutants;
 use second::octets::{hex, unhex};
 use second::reach::Reach;
-use second::rules::{Rules, Wrong};
-use second::script::{play, records, show_image};
+use second::rules::script::{play, records, show_image};
 
-const USAGE: &str = "usage:
-  second play [--wrong RULE] < script    the line of each record, maybe with one rule wrong
-  second show < image                    the line of portshow
-  second trace < script                  each record in hex, and its line
-  second pack < hex                      octets from hex text
-  second cost < script                   the last call of a script of portcost, played many times
-  second gen --seed N --calls K --kind KIND
-  second reach --seeds A..B --calls K [--kinds KIND,..]
-  second mutants --seeds A..B --calls K [--kinds KIND,..]
-  second compare --seeds A..B --calls K --with PROGRAM [--kinds KIND,..]
-                 [--without OP,..] [--save FILE] [--reach] [--any-reach]
-KIND is one of mixed, codec, table, image, keys, garbage; seeds go from A up to B, without B.";
+const HELP: &str = "\
+A second MKA participant, by docs/SCOPE.md; call scripts are described in docs/SCRIPTS.md.
 
-struct Args(Vec<String>);
+second play [--wrong RULE] < script
+    prints the line of each record; RULE, a name that mutants prints, is wrong then
+second show < image
+    prints the line of portshow
+second trace < script
+    prints each record in hex, and its line
+second pack < hex
+    writes the octets of hex text; what stands behind a # is a comment
+second cost < script
+    plays the last call of a script of portcost many times, and prints its sum
+second gen --seed N --calls K --kind KIND
+    writes the script of a seed, K calls long
+second reach --seeds A..B --calls K [--kinds KIND,..] [--without OP,..]
+    plays scripts and counts what they reach; fails if something on the list is missing
+second mutants --seeds A..B --calls K [--kinds KIND,..] [--without OP,..]
+    plays scripts with one rule wrong at a time; fails if one is never noticed
+second compare --seeds A..B --calls K --with PROGRAM [--kinds KIND,..] [--without OP,..]
+               [--save FILE] [--reach] [--any-reach]
+    runs PROGRAM on scripts and compares every line; fails at the first difference, if PROGRAM can't be
+    started or doesn't end with exit status 0, and if something on the list of reach is missing
+    --save       writes the script that failed to FILE
+    --reach      prints what was reached
+    --any-reach  lets a run pass that doesn't reach all
 
-impl Args {
-    fn value(&self, name: &str) -> Option<&str> {
-        let at = self.0.iter().position(|arg| arg == name)?;
-        self.0.get(at + 1).map(String::as_str)
-    }
+Seeds go from A up to B, without B. KIND is mixed, codec, table, image, keys or garbage; the kinds are taken in
+turn, all six if none are named. --without leaves the records of an op, 1 to 11, out of each script.
+The exit status is 0 where all is well, 1 where a command fails as said above, 2 where it can't do its work.
+";
 
-    fn has(&self, name: &str) -> bool {
-        self.0.iter().any(|arg| arg == name)
-    }
+/// The name of a command, its options, and its work, which answers whether all is well.
+type Command = (&'static str, &'static [&'static str], fn(&Args) -> Result<bool, String>);
 
-    fn number(&self, name: &str) -> Result<u64, String> {
-        let value = self.value(name).ok_or(format!("{name} is missing"))?;
-        value.parse().map_err(|_| format!("{name} takes a number"))
-    }
-
-    fn kinds(&self) -> Result<Vec<Kind>, String> {
-        let Some(names) = self.value("--kinds").or(self.value("--kind")) else {
-            return Ok(Kind::ALL.to_vec());
-        };
-        names.split(',').map(|name| Kind::named(name).ok_or(format!("no kind {name}"))).collect()
-    }
-
-    fn seeds(&self) -> Result<Range<u64>, String> {
-        let value = self.value("--seeds").ok_or("--seeds is missing")?;
-        let ends = value.split_once("..").and_then(|(a, b)| Some((a.parse().ok()?, b.parse().ok()?)));
-        ends.map(|(a, b)| a..b).ok_or("--seeds takes A..B".to_string())
-    }
-
-    fn rules(&self) -> Result<Rules, String> {
-        let Some(name) = self.value("--wrong") else {
-            return Ok(Rules::RIGHT);
-        };
-        let rule = Wrong::ALL.iter().find(|rule| format!("{rule:?}") == name);
-        rule.map(|&rule| Rules::with(rule)).ok_or(format!("no rule {name}"))
-    }
-
-    fn without(&self) -> Result<Vec<u8>, String> {
-        let Some(ops) = self.value("--without") else {
-            return Ok(Vec::new());
-        };
-        ops.split(',').map(|op| op.parse().map_err(|_| format!("no op {op}"))).collect()
-    }
-
-    fn runs(&self) -> Result<Runs, String> {
-        let (seeds, calls) = (self.seeds()?, self.number("--calls")? as usize);
-        Ok(Runs { seeds, calls, kinds: self.kinds()?, without: self.without()? })
-    }
-}
+const COMMANDS: [Command; 9] = [
+    ("play", &["--wrong"], run_play),
+    ("show", &[], run_show),
+    ("trace", &[], run_trace),
+    ("pack", &[], run_pack),
+    ("cost", &[], run_cost),
+    ("gen", &["--seed", "--calls", "--kind"], run_gen),
+    ("reach", &["--seeds", "--calls", "--kinds", "--without"], run_reach),
+    ("mutants", &["--seeds", "--calls", "--kinds", "--without"], run_mutants),
+    (
+        "compare",
+        &["--seeds", "--calls", "--kinds", "--without", "--with", "--save", "--reach", "--any-reach"],
+        run_compare,
+    ),
+];
 
 fn input() -> Result<Vec<u8>, String> {
     let mut octets = Vec::new();
-    io::stdin().read_to_end(&mut octets).map_err(|e| e.to_string())?;
+    io::stdin().read_to_end(&mut octets).map_err(|e| format!("can't read standard input: {e}"))?;
     Ok(octets)
 }
 
+/// Writes all; there is nothing in it that could be amiss but a failed write.
 fn output(octets: &[u8]) -> Result<bool, String> {
-    io::stdout().write_all(octets).map_err(|e| e.to_string())?;
-    Ok(true)
+    let mut out = io::stdout();
+    let written = out.write_all(octets).and_then(|()| out.flush());
+    written.map(|()| true).map_err(|e| format!("can't write standard output: {e}"))
 }
 
-fn lines(lines: impl IntoIterator<Item = String>) -> Result<bool, String> {
-    let text: String = lines.into_iter().map(|line| line + "\n").collect();
+fn print(lines: &[String]) -> Result<bool, String> {
+    let text: String = lines.iter().flat_map(|line| [line, "\n"]).collect();
     output(text.as_bytes())
 }
 
-/// Tells what wasn't reached; true if nothing.
-fn reached(reach: &Reach, args: &Args) -> bool {
-    if args.has("--reach") {
-        reach.print();
+fn run_play(args: &Args) -> Result<bool, String> {
+    match args.wrong()? {
+        None => print(&play(&input()?)),
+        wrong => print(&mutants::play_copy(&input()?, wrong)),
     }
-    let missing = reach.missing();
-    for name in &missing {
-        println!("not reached: {name}");
-    }
-    missing.is_empty() || args.has("--any-reach")
 }
 
-fn command(name: &str, args: &Args) -> Result<bool, String> {
-    match name {
-        "play" => lines(play(&input()?, args.rules()?)),
-        "show" => lines([show_image(&input()?, Rules::RIGHT).to_string()]),
-        "trace" => {
-            let script = input()?;
-            let told = play(&script, Rules::RIGHT);
-            lines(
-                records(&script)
-                    .iter()
-                    .zip(told)
-                    .zip(1..)
-                    .map(|((r, l), n)| format!("{n} {}\n  {l}", hex(r))),
-            )
-        }
-        "pack" => {
-            let text = String::from_utf8(input()?).map_err(|e| e.to_string())?;
-            let plain: String = text.lines().map(|l| l.split('#').next().unwrap_or("")).collect();
-            output(&unhex(&plain).ok_or("the input isn't hex")?)
-        }
-        "cost" => lines([format!("check {}", cost(&input()?).ok_or("the input is no script of portcost")?)]),
-        "gen" => {
-            let kind = *args.kinds()?.first().ok_or("--kind is missing")?;
-            output(&generate(args.number("--seed")?, args.number("--calls")? as usize, kind))
-        }
-        "reach" => {
-            let mut reach = Reach::default();
-            count_reach(&args.runs()?, &mut reach);
-            reach.print();
-            Ok(reached(&reach, &Args(Vec::new())))
-        }
-        "mutants" => Ok(mutants(&args.runs()?)),
-        "compare" => {
-            let program = args.value("--with").ok_or("--with is missing")?;
-            let mut reach = Reach::default();
-            let summary = compare(&args.runs()?, program, args.value("--save"), &mut reach)
-                .map_err(|e| format!("{program}: {e}"))?;
-            let Some(summary) = summary else {
-                return Ok(false);
-            };
-            let all = reached(&reach, args);
-            println!("{summary}");
-            Ok(all)
-        }
-        _ => Err(USAGE.to_string()),
+fn run_show(_: &Args) -> Result<bool, String> {
+    print(&[show_image(&input()?).to_string()])
+}
+
+fn run_trace(_: &Args) -> Result<bool, String> {
+    let script = input()?;
+    let played = (1..).zip(records(&script)).zip(play(&script));
+    let lines: Vec<String> =
+        played.map(|((number, record), line)| format!("{number} {}\n  {line}", hex(record))).collect();
+    print(&lines)
+}
+
+fn run_pack(_: &Args) -> Result<bool, String> {
+    let text = String::from_utf8(input()?).map_err(|e| format!("the input isn't text: {e}"))?;
+    let plain: String = text.lines().map(|line| line.split('#').next().unwrap_or("")).collect();
+    output(&unhex(&plain).ok_or("the input isn't hex, or ends within an octet")?)
+}
+
+fn run_cost(_: &Args) -> Result<bool, String> {
+    let sum = cost(&input()?).ok_or("the input is no script of portcost")?;
+    print(&[format!("check {sum}")])
+}
+
+fn run_gen(args: &Args) -> Result<bool, String> {
+    output(&generate(args.number("--seed")?, args.calls()?, args.kind()?))
+}
+
+fn run_reach(args: &Args) -> Result<bool, String> {
+    let reach = args.runs()?.reach();
+    let missing = missing(&reach);
+    print(&[reach.lines(), missing.clone()].concat())?;
+    Ok(missing.is_empty())
+}
+
+/// What wasn't reached, a line each.
+fn missing(reach: &Reach) -> Vec<String> {
+    reach.missing().iter().map(|name| format!("not reached: {name}")).collect()
+}
+
+fn run_mutants(args: &Args) -> Result<bool, String> {
+    let noticed = mutants::try_all(&args.runs()?);
+    print(&mutants::told(&noticed))?;
+    Ok(noticed.iter().all(Option::is_some))
+}
+
+fn run_compare(args: &Args) -> Result<bool, String> {
+    let mut reach = Reach::default();
+    let summary = match compare(&args.runs()?, args.needed("--with")?, &mut reach) {
+        Ok(summary) => summary,
+        Err(failure) => return run_failure(&failure, args.value("--save")),
+    };
+    let missing = missing(&reach);
+    let counts = if args.has("--reach") { reach.lines() } else { Vec::new() };
+    print(&[counts, missing.clone(), vec![summary]].concat())?;
+    Ok(missing.is_empty() || args.has("--any-reach"))
+}
+
+fn run_failure(failure: &Failure, save: Option<&str>) -> Result<bool, String> {
+    print(&failure.lines)?;
+    if let Some(path) = save {
+        std::fs::write(path, &failure.script).map_err(|e| format!("can't write {path}: {e}"))?;
+        print(&[format!("script written to {path}")])?;
     }
+    Ok(false)
+}
+
+/// Whether all is well; else what kept the command from its work.
+fn run(name: &str, words: Vec<String>) -> Result<bool, String> {
+    if ["--help", "-h", "help"].contains(&name) {
+        return output(HELP.as_bytes()).map_err(|e| format!("second: {e}"));
+    }
+    let Some((_, known, work)) = COMMANDS.iter().find(|(command, ..)| *command == name) else {
+        return Err(format!("second: there is no command {name:?}; second --help lists them"));
+    };
+    Args::read(words, known).and_then(|args| work(&args)).map_err(|e| format!("second {name}: {e}"))
 }
 
 fn main() -> ExitCode {
-    let mut args: Vec<String> = std::env::args().skip(1).collect();
-    let name = if args.is_empty() { String::new() } else { args.remove(0) };
-    match command(&name, &Args(args)) {
+    let mut words = std::env::args_os().skip(1).map(|word| word.to_string_lossy().into_owned());
+    let name = words.next().unwrap_or_default();
+    match run(&name, words.collect()) {
         Ok(true) => ExitCode::SUCCESS,
         Ok(false) => ExitCode::from(1),
         Err(message) => {
-            eprintln!("{message}");
+            // There is nobody left to tell if this fails too.
+            drop(writeln!(io::stderr(), "{message}"));
             ExitCode::from(2)
         }
     }

@@ -77,10 +77,10 @@ impl Reach {
         refusals.chain(things).collect()
     }
 
-    pub fn print(&self) {
-        for (name, count, wanted) in self.all() {
-            println!("{count:>8} {} {name}", if wanted { ' ' } else { '-' });
-        }
+    /// A line for each thing, with `-` where the kinds played need not reach it.
+    pub fn lines(&self) -> Vec<String> {
+        let line = |(name, count, wanted)| format!("{count:>8} {} {name}", if wanted { ' ' } else { '-' });
+        self.all().into_iter().map(line).collect()
     }
 
     /// What the kinds played should have reached and didn't.

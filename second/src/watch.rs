@@ -1,16 +1,13 @@
 //! Tells what a call reached, from the states before and after it. The participant knows nothing of it.
 
-use crate::frame::{Basic, AGILITY};
-use crate::keys::Report;
 use crate::octets::u16_at;
-use crate::port::Port;
 use crate::reach::{Reach, Thing as T};
-use crate::rules::Rules;
-use crate::script::{Call, Line};
-use crate::sets::{Fault, Kind, Walk};
-use crate::table::{age, expired, Server, LIFE, MOST_PEERS};
-
-const RIGHT: Rules = Rules::RIGHT;
+use crate::rules::frame::{Basic, AGILITY};
+use crate::rules::keys::Report;
+use crate::rules::port::{Creation, Port};
+use crate::rules::script::{Call, Line};
+use crate::rules::sets::{Fault, Kind, Walk};
+use crate::rules::table::{age, expired, Server, LIFE, MOST_PEERS};
 
 impl Reach {
     pub fn watch(&mut self, before: Option<&Port>, call: Option<&Call>, line: &Line, after: Option<&Port>) {
@@ -29,7 +26,7 @@ impl Reach {
         }
     }
 
-    fn creation(&mut self, c: &crate::port::Creation, before: Option<&Port>, line: &Line) {
+    fn creation(&mut self, c: &Creation, before: Option<&Port>, line: &Line) {
         self.count_if(c.time == 0, T::TimeZero);
         self.count_if(c.ckn.is_empty(), T::CreateCknEmpty);
         self.count_if(c.ckn.len() > 32, T::CreateCknLong);
@@ -42,7 +39,7 @@ impl Reach {
     }
 
     fn shown(&mut self, image: &[u8]) {
-        if let Some(port) = Port::read_image(image, RIGHT) {
+        if let Ok(port) = Port::read_image(image) {
             self.count(match port.server() {
                 Server::Nobody => T::ShownNone,
                 Server::Ourselves => T::ShownSelf,
@@ -52,10 +49,10 @@ impl Reach {
     }
 
     fn walk(&mut self, frame: &[u8]) {
-        let Ok(basic) = Basic::read(frame, RIGHT) else {
+        let Ok(basic) = Basic::read(frame) else {
             return;
         };
-        let walk = Walk::over(frame, &basic, RIGHT);
+        let walk = Walk::over(frame, &basic);
         self.count_if(basic.ckn.len() % 4 != 0, T::WalkPadded);
         self.count_if(frame.len() > 4 + usize::from(u16_at(frame, 2)), T::WalkTrailing);
         for set in &walk.sets {
@@ -130,7 +127,7 @@ impl Reach {
     }
 
     fn expiry(&mut self, before: &Port, call: &Call, time: u64, done: bool) {
-        let left = expired(&before.peers, time, RIGHT);
+        let left = expired(&before.peers, time);
         let gone = before.peers.len() - left.len();
         let lost = left.iter().filter(|e| !e.live()).count()
             - before.peers.iter().filter(|e| !e.live() && left.iter().any(|l| l.mi == e.mi)).count();
@@ -160,7 +157,7 @@ impl Reach {
     }
 
     fn receive_refused(&mut self, before: &Port, time: u64, verdict: bool, frame: &[u8], number: u8) {
-        let basic = match Basic::read(frame, RIGHT) {
+        let basic = match Basic::read(frame) {
             Ok(basic) => basic,
             Err(_) => {
                 let odd = frame.len() >= 4 && !u16_at(frame, 2).is_multiple_of(4);
@@ -168,8 +165,8 @@ impl Reach {
                 return self.count_if(number == 3 && odd, T::ThreeBeforeFour);
             }
         };
-        let bad = Walk::over(frame, &basic, RIGHT).bad.is_some();
-        let left = expired(&before.peers, time, RIGHT);
+        let bad = Walk::over(frame, &basic).bad.is_some();
+        let left = expired(&before.peers, time);
         let held = left.iter().find(|e| e.mi == basic.mi);
         match number {
             6 => self.count_if(basic.agility != AGILITY, T::SixBeforeSeven),
@@ -219,7 +216,7 @@ impl Reach {
             return;
         }
         let mut then = before.clone();
-        then.peers = expired(&then.peers, time, RIGHT);
+        then.peers = expired(&then.peers, time);
         then.clock = time;
         let pause = age(time, then.last_distribution);
         let potential = then.peers.iter().any(|e| !e.live());

@@ -1,19 +1,18 @@
 //! Tells what an accepted frame reached, and how an election was decided.
 
-use crate::frame::Basic;
-use crate::port::Port;
 use crate::reach::{Reach, Thing as T};
-use crate::rules::Rules;
-use crate::sets::{Kind, Walk};
-use crate::table::{expired, Entry, Server, MOST_PEERS};
+use crate::rules::frame::Basic;
+use crate::rules::port::Port;
+use crate::rules::sets::{Kind, Walk};
+use crate::rules::table::{expired, Entry, Server, MOST_PEERS};
 
 impl Reach {
     pub(crate) fn received(&mut self, before: &Port, time: u64, frame: &[u8], after: &Port) {
-        let Ok(basic) = Basic::read(frame, Rules::RIGHT) else {
+        let Ok(basic) = Basic::read(frame) else {
             return;
         };
-        let walk = Walk::over(frame, &basic, Rules::RIGHT);
-        let left = expired(&before.peers, time, Rules::RIGHT);
+        let walk = Walk::over(frame, &basic);
+        let left = expired(&before.peers, time);
         let known = before.peers.iter().find(|e| e.mi == basic.mi);
         let held = left.iter().find(|e| e.mi == basic.mi);
         self.count(if held.is_some() { T::Updated } else { T::Entered });

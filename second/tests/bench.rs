@@ -1,4 +1,4 @@
-//! The bench cases of document 01.
+//! SCOPE, Bench cases.
 
 mod common;
 use common::{echo, frame, mi_text, set, Script};

@@ -2,9 +2,8 @@
 
 mod common;
 use common::{echo, frame, sak, set, Script, OWN};
-use second::keys::Report;
-use second::port::{Creation, Port};
-use second::rules::Rules;
+use second::rules::keys::Report;
+use second::rules::port::{Creation, Port};
 
 fn port() -> Port {
     let creation = Creation {
@@ -16,7 +15,7 @@ fn port() -> Port {
         desired: true,
         ckn: common::CKN,
     };
-    Port::create(&creation, Rules::RIGHT).expect("created")
+    Port::create(&creation).expect("created")
 }
 
 /// No script reaches refusal 14: it takes as many calls as there are numbers.

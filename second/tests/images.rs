@@ -1,10 +1,9 @@
-//! The rules of the port image, one by one.
+//! The rules of SCOPE, Port image, one by one.
 
 mod common;
 use common::{echo, frame, sak, Script};
 use second::octets::unhex;
-use second::port::Port;
-use second::rules::Rules;
+use second::rules::port::Port;
 
 const OWN: usize = 28;
 const PEER: usize = 144;
@@ -23,7 +22,7 @@ fn image() -> Vec<u8> {
 }
 
 fn good(image: &[u8]) -> bool {
-    Port::read_image(image, Rules::RIGHT).is_some()
+    Port::read_image(image).is_ok()
 }
 
 fn with(at: usize, octets: &[u8]) -> Vec<u8> {

@@ -1,25 +1,31 @@
 //! The generated scripts reach what is listed, and tell every wrong rule from the right one.
 
-use second::compare::{count_reach, mutants, Runs};
 use second::gen::{generate, Kind};
-use second::reach::Reach;
-use second::rules::Wrong;
-use second::script::{read_record, records};
+use second::mutants::{self, play_copy};
+use second::rules::script::{play, read_record, records};
+use second::runs::Runs;
+
+fn runs() -> Runs {
+    Runs { seeds: 1..301, calls: 200, kinds: Kind::ALL.to_vec(), without: Vec::new() }
+}
 
 #[test]
 fn every_wrong_rule_is_noticed() {
-    assert!(Wrong::ALL.len() >= 40);
-    assert!(mutants(&Runs { seeds: 1..301, calls: 200, kinds: Kind::ALL.to_vec(), without: Vec::new() }));
+    assert!(mutants::ALL.len() >= 212, "none may be lost");
+    let noticed = mutants::try_all(&runs());
+    assert!(noticed.iter().all(Option::is_some), "{:#?}", mutants::told(&noticed));
+}
+
+#[test]
+fn the_copy_without_a_wrong_rule_is_right() {
+    for (seed, _, script) in runs().scripts() {
+        assert_eq!(play_copy(&script, None), play(&script), "seed {seed}");
+    }
 }
 
 #[test]
 fn all_is_reached() {
-    let mut reach = Reach::default();
-    count_reach(
-        &Runs { seeds: 1..301, calls: 200, kinds: Kind::ALL.to_vec(), without: Vec::new() },
-        &mut reach,
-    );
-    assert_eq!(reach.missing(), Vec::<String>::new());
+    assert_eq!(runs().reach().missing(), Vec::<String>::new());
 }
 
 #[test]

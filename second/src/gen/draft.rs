@@ -162,7 +162,7 @@ pub fn adorn(rng: &mut Rng, d: &mut Draft) {
     }
 }
 
-/// One damage to one field. The frame may still be good, as the document says.
+/// One damage to one field. The frame may still be good.
 pub fn damage(rng: &mut Rng, d: &mut Draft, own_mi: Mi) {
     let body = d.true_body();
     match rng.below(28) {

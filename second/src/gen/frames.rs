@@ -3,7 +3,7 @@
 use super::draft::{adorn, damage, Draft, RawSet};
 use super::{Gen, Sim};
 use crate::octets::Mi;
-use crate::script::Line;
+use crate::rules::script::Line;
 
 impl Gen {
     pub(super) fn add_sim(&mut self) -> usize {

@@ -1,10 +1,10 @@
 //! Images: saved, shown back, damaged octet by octet, and made with one rule broken.
 
 use super::Gen;
-use crate::image::{CONTENTS, KEY, OWN, PEER};
-use crate::keys::Key;
-use crate::port::Port;
-use crate::table::Entry;
+use crate::rules::image::{CONTENTS, KEY, OWN, PEER};
+use crate::rules::keys::Key;
+use crate::rules::port::Port;
+use crate::rules::table::Entry;
 
 impl Gen {
     pub(super) fn image_scene(&mut self) {

@@ -2,8 +2,8 @@
 
 use super::draft::RawSet;
 use super::Gen;
-use crate::keys::Report;
-use crate::table::Server;
+use crate::rules::keys::Report;
+use crate::rules::table::Server;
 
 impl Gen {
     pub(super) fn key_scene(&mut self) {

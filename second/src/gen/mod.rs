@@ -7,11 +7,10 @@ mod key_scenes;
 mod rng;
 mod table_scenes;
 
-use crate::keys::Report;
 use crate::octets::{Mi, Sci};
-use crate::port::Port;
-use crate::rules::Rules;
-use crate::script::{read_record, Line, Player};
+use crate::rules::keys::Report;
+use crate::rules::port::Port;
+use crate::rules::script::{read_record, Line, Player};
 use rng::Rng;
 
 #[derive(Debug, Clone, Copy, PartialEq, Eq)]
@@ -78,7 +77,7 @@ pub fn generate(seed: u64, calls: usize, kind: Kind) -> Vec<u8> {
     let mut gen = Gen {
         rng: Rng::new(stream),
         kind,
-        player: Player::new(Rules::RIGHT),
+        player: Player::default(),
         script: Vec::new(),
         left: calls,
         sims: Vec::new(),

@@ -2,7 +2,7 @@
 
 use super::draft::{damage, RawSet};
 use super::Gen;
-use crate::table::MOST_PEERS;
+use crate::rules::table::MOST_PEERS;
 
 impl Gen {
     pub(super) fn table_scene(&mut self) {

@@ -2,8 +2,7 @@
 #![allow(dead_code)]
 
 use second::octets::hex;
-use second::rules::Rules;
-use second::script;
+use second::rules::script;
 
 pub const OWN: [u8; 12] = [0x11; 12];
 pub const SCI: [u8; 8] = [2, 0, 0, 0, 0, 1, 0, 1];
@@ -85,7 +84,7 @@ impl Script {
     }
 
     pub fn lines(&self) -> Vec<String> {
-        script::play(&self.0, Rules::RIGHT)
+        script::play(&self.0)
     }
 
     pub fn last(&self) -> String {

@@ -1,9 +1,9 @@
-//! The lines that tell a state or the sets of a frame.
+//! The lines that tell a state (SCOPE, portshow) or the sets of a frame (SCRIPTS).
 
+use super::port::Port;
+use super::sets::{KeyUse, Kind, Listed, Set, Walk};
+use super::table::Server;
 use crate::octets::hex;
-use crate::port::Port;
-use crate::sets::{KeyUse, Kind, Listed, Set, Walk};
-use crate::table::Server;
 
 /// The line of `portshow`.
 pub fn status(port: &Port) -> String {

@@ -1,14 +1,13 @@
-//! Call scripts: the records, the calls in them, and playing them.
+//! Call scripts (SCRIPTS): the records, the calls in them, and playing them.
 
 use std::fmt;
 
-use crate::frame::Basic;
-use crate::keys::Report;
+use super::frame::Basic;
+use super::keys::Report;
+use super::port::{Creation, Port};
+use super::sets::Walk;
+use super::show;
 use crate::octets::{hex, part, u16_at, u32_at, u64_at, Mi};
-use crate::port::{Creation, Port};
-use crate::rules::{Rules, Wrong as W};
-use crate::sets::Walk;
-use crate::show;
 
 pub const MOST_ROOM: usize = 2_048;
 
@@ -112,40 +111,34 @@ impl From<Result<String, u8>> for Line {
 }
 
 /// Plays calls one after the other.
+#[derive(Default)]
 pub struct Player {
     pub port: Option<Port>,
-    rules: Rules,
 }
 
 impl Player {
-    pub fn new(rules: Rules) -> Player {
-        Player { port: None, rules }
-    }
-
-    /// A refused create leaves the participant that was there.
-    fn create(&mut self, creation: &Creation) -> Result<String, u8> {
-        let back = self.port.as_ref().is_some_and(|port| creation.time < port.clock);
-        if back && self.rules.wrong(W::CreateBackRefused) {
-            return Err(1);
-        }
-        self.port = Some(Port::create(creation, self.rules)?);
-        Ok("created".to_string())
-    }
-
     pub fn play(&mut self, call: &Call) -> Line {
         match call {
             Call::Create(creation) => self.create(creation).into(),
-            Call::Show { image } => show_image(image, self.rules),
-            Call::Sets { frame } => match Basic::read(frame, self.rules) {
-                Ok(basic) => Line::Said(show::sets(&Walk::over(frame, &basic, self.rules))),
-                Err(number) => Line::Refused(number),
-            },
+            Call::Show { image } => show_image(image),
+            Call::Sets { frame } => sets_of(frame).into(),
             _ => match &mut self.port {
                 Some(port) => play_on(port, call).into(),
                 None => Line::NoPort,
             },
         }
     }
+
+    /// A refused create leaves the participant that was there.
+    fn create(&mut self, creation: &Creation) -> Result<String, u8> {
+        self.port = Some(Port::create(creation)?);
+        Ok("created".to_string())
+    }
+}
+
+fn sets_of(frame: &[u8]) -> Result<String, u8> {
+    let basic = Basic::read(frame)?;
+    Ok(show::sets(&Walk::over(frame, &basic)))
 }
 
 fn play_on(port: &mut Port, call: &Call) -> Result<String, u8> {
@@ -182,11 +175,8 @@ fn play_on(port: &mut Port, call: &Call) -> Result<String, u8> {
 }
 
 /// The line of `portshow` for an image.
-pub fn show_image(image: &[u8], rules: Rules) -> Line {
-    match Port::read_image(image, rules) {
-        Some(port) => Line::Said(show::status(&port)),
-        None => Line::Refused(16),
-    }
+pub fn show_image(image: &[u8]) -> Line {
+    Port::read_image(image).map(|port| show::status(&port)).into()
 }
 
 /// The records of a script, each with all its octets; the last may be cut off.
@@ -213,19 +203,18 @@ pub fn read_record(record: &[u8]) -> Option<Call<'_>> {
     Call::read(record[0], &record[3..])
 }
 
-/// Plays a script; `watch` sees each call between the state before and the player after it.
+/// Plays a script; `watch` sees each call and its line between the states before and after it.
 pub fn play_watched(
     script: &[u8],
-    rules: Rules,
-    mut watch: impl FnMut(Option<&Port>, Option<&Call>, &Line, &Player),
+    mut watch: impl FnMut(Option<&Port>, Option<&Call>, &Line, Option<&Port>),
 ) -> Vec<String> {
-    let mut player = Player::new(rules);
+    let mut player = Player::default();
     let mut lines = Vec::new();
     for record in records(script) {
         let before = player.port.clone();
         let call = read_record(record);
         let line = call.as_ref().map_or(Line::Malformed, |call| player.play(call));
-        watch(before.as_ref(), call.as_ref(), &line, &player);
+        watch(before.as_ref(), call.as_ref(), &line, player.port.as_ref());
         lines.push(line.to_string());
         if line == Line::Malformed {
             break;
@@ -235,6 +224,6 @@ pub fn play_watched(
 }
 
 /// The lines a script prints.
-pub fn play(script: &[u8], rules: Rules) -> Vec<String> {
-    play_watched(script, rules, |_, _, _, _| ())
+pub fn play(script: &[u8]) -> Vec<String> {
+    play_watched(script, |_, _, _, _| ())
 }

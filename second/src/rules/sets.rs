@@ -1,8 +1,7 @@
-//! The walk over the further sets of a frame.
+//! The walk over the further sets (SCOPE, Reading an EAPOL-MKA frame): fact 9.
 
-use crate::frame::Basic;
+use super::frame::{set_length, Basic};
 use crate::octets::{padded, part, u32_at, Mi};
-use crate::rules::{Rules, Wrong as W};
 
 /// An entry of a Live or Potential list.
 #[derive(Debug, Clone, Copy)]
@@ -70,12 +69,12 @@ pub struct Walk {
 }
 
 impl Walk {
-    pub fn over(frame: &[u8], basic: &Basic, rules: Rules) -> Walk {
+    pub fn over(frame: &[u8], basic: &Basic) -> Walk {
         let mut walk = Walk::default();
         let mut seen = [false; 5];
         let mut place = basic.sets;
         while place < basic.icv {
-            match read_set(frame, place, basic.icv, &mut seen, rules) {
+            match read_set(frame, place, basic.icv, &mut seen) {
                 Err(fault) => {
                     walk.bad = Some((place, fault));
                     break;
@@ -107,65 +106,58 @@ fn read_set(
     place: usize,
     icv: usize,
     seen: &mut [bool; 5],
-    rules: Rules,
 ) -> Result<(usize, Option<Kind>), Fault> {
-    let number = frame[place];
-    let own = frame[place + 1];
-    let mask = rules.either(W::SetThirdOctetWhole, 0x0f, 0xff);
-    let high = rules.either(W::SetHighIgnored, frame[place + 2] & mask, 0);
-    let length = usize::from(high) << 8 | usize::from(frame[place + 3]);
+    let [number, own, third, fourth] = part(frame, place);
+    let length = set_length(third, fourth);
     let at = place + 4;
-
     if number == 255 {
-        if at == icv && rules.right(W::IndicatorNeedsBody) {
-            let good = length == 16 || rules.wrong(W::IndicatorAnyLength);
-            return if good { Ok((length, Some(Kind::IcvIndicator))) } else { Err(Fault::IndicatorLength) };
-        }
-        if rules.right(W::IndicatorAnywhere) || length != 16 || at + 16 > icv {
-            return Err(Fault::IndicatorPlace);
-        }
-        return Ok((length, Some(Kind::IcvIndicator)));
+        return read_indicator(at, length, icv);
     }
-    let known = (1..=4).contains(&number);
-    if at + padded(length) > icv && (known || rules.right(W::FitNotAsked)) {
+    if at + padded(length) > icv {
         return Err(Fault::Fit);
     }
-    if !known {
-        if rules.wrong(W::OthersRefused) || rules.wrong(W::TypeZeroRefused) && number == 0 {
-            return Err(Fault::Length);
-        }
+    if !(1..=4).contains(&number) {
         return Ok((length, None));
     }
-    let counted = length > 0 || rules.right(W::EmptyNotCounted);
-    if seen[usize::from(number)] && rules.right(W::TwiceRead) {
+    let seen = &mut seen[usize::from(number)];
+    if *seen {
         return Err(Fault::Twice);
     }
-    seen[usize::from(number)] |= counted;
+    *seen = true;
 
     let body = &frame[at..at + length];
     let kind = match number {
-        1 => Kind::Live(read_list(body, rules)?),
-        2 => Kind::Potential(read_list(body, rules)?),
-        3 => Kind::SakUse(read_sak_use(own, body, rules)?),
-        _ => Kind::DistributedSak(read_sak(own, body, at, rules)?),
+        1 => Kind::Live(read_list(body)?),
+        2 => Kind::Potential(read_list(body)?),
+        3 => Kind::SakUse(read_sak_use(own, body)?),
+        _ => Kind::DistributedSak(read_sak(own, body, at)?),
     };
     Ok((length, Some(kind)))
 }
 
-fn read_list(body: &[u8], rules: Rules) -> Result<Vec<Listed>, Fault> {
-    let step = rules.either(W::ListMultipleOf4, 16, 4);
-    if !body.len().is_multiple_of(step) || rules.wrong(W::EmptyListRefused) && body.is_empty() {
+/// A header right before the ICV, with the ICV as its body.
+fn read_indicator(at: usize, length: usize, icv: usize) -> Result<(usize, Option<Kind>), Fault> {
+    if at != icv {
+        return Err(Fault::IndicatorPlace);
+    }
+    if length != 16 {
+        return Err(Fault::IndicatorLength);
+    }
+    Ok((length, Some(Kind::IcvIndicator)))
+}
+
+fn read_list(body: &[u8]) -> Result<Vec<Listed>, Fault> {
+    if !body.len().is_multiple_of(16) {
         return Err(Fault::Length);
     }
     let entry = |e: &[u8]| Listed { mi: part(e, 0), mn: u32_at(e, 12) };
     Ok(body.chunks_exact(16).map(entry).collect())
 }
 
-fn read_sak_use(own: u8, body: &[u8], rules: Rules) -> Result<Option<[KeyUse; 2]>, Fault> {
+fn read_sak_use(own: u8, body: &[u8]) -> Result<Option<[KeyUse; 2]>, Fault> {
     match body.len() {
-        0 if rules.right(W::UseEmptyRefused) => return Ok(None),
+        0 => return Ok(None),
         40 => {}
-        44 if rules.wrong(W::Use44Read) => {}
         _ => return Err(Fault::Length),
     }
     let half = |bits: u8, at: usize| KeyUse {
@@ -177,41 +169,26 @@ fn read_sak_use(own: u8, body: &[u8], rules: Rules) -> Result<Option<[KeyUse; 2]
         pn: u32_at(body, at + 16),
     };
     // Four bits for each key, the latest's on top.
-    let (latest, old) = (half(own >> 4, 0), half(own & 15, 20));
-    if rules.wrong(W::UseHalvesSwapped) {
-        return Ok(Some([old, latest]));
-    }
-    if rules.wrong(W::UseReadFlagsSwapped) {
-        let turned = |u: KeyUse| KeyUse { transmit: u.receive, receive: u.transmit, ..u };
-        return Ok(Some([turned(latest), turned(old)]));
-    }
-    Ok(Some([latest, old]))
+    Ok(Some([half(own >> 4, 0), half(own & 15, 20)]))
 }
 
-fn read_sak(own: u8, body: &[u8], at: usize, rules: Rules) -> Result<Option<DistributedSak>, Fault> {
-    let suited = match body.len() {
-        0 if rules.right(W::SakEmptyRefused) => return Ok(None),
-        28 => false,
-        36 if rules.right(W::Sak36Refused) => true,
-        44 if rules.wrong(W::Sak44Read) => true,
-        52 => true,
+fn read_sak(own: u8, body: &[u8], at: usize) -> Result<Option<DistributedSak>, Fault> {
+    let (suite, wrapped) = match body.len() {
+        0 => return Ok(None),
+        28 => ([0; 8], 4),
+        36 | 52 => (part(body, 4), 12),
         _ => return Err(Fault::Length),
     };
     let kn = u32_at(body, 0);
-    if kn == 0 && rules.right(W::KeyNumberZeroRead) {
+    if kn == 0 {
         return Err(Fault::KeyNumberZero);
     }
-    let (an, confidentiality) = (own >> 6, own >> 4 & 3);
-    let (an, confidentiality) =
-        rules.either(W::SakAnConfSwapped, (an, confidentiality), (confidentiality, an));
-    let from = if suited && rules.right(W::WrappedWithSuite) { 12 } else { 4 };
-    let base = rules.either(W::PlaceFromBody, at, at - 4);
     Ok(Some(DistributedSak {
-        an,
-        confidentiality,
+        an: own >> 6,
+        confidentiality: own >> 4 & 3,
         kn,
-        suite: if suited { part(body, 4) } else { [0; 8] },
-        place: base + from,
-        length: body.len() - from,
+        suite,
+        place: at + wrapped,
+        length: body.len() - wrapped,
     }))
 }

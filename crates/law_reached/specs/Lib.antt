@@ -8,3 +8,5 @@ pub mod Reached
 pub mod ReachedArgument
 pub mod Saved
 pub mod SavedArgument
+pub mod Sends
+pub mod SendsArgument

@@ -7,12 +7,10 @@ use mathlib.Core.List.{List, _++_, map}
 use Rattle.base_octets.specs.Run.{partOf}
 use Rattle.frame.specs.Basic.{basicOf}
 use Rattle.frame.specs.Ours.{fact6, fact7}
-use Rattle.frame.specs.declared.Basic.{Basic}
 use Rattle.frame.specs.declared.BasicRead.the-variants.{Read}
 use Rattle.frame_places.specs.declared.Places.{Places}
 use Rattle.frame_sets.specs.Kinds.{sakUseAt, sakAt}
 use Rattle.frame_walk.specs.List.{listAt}
-use Rattle.frame_walk.specs.Walk.{walkOf}
 use Rattle.frame_walk.specs.declared.Walked.the-variants.{End}
 use Rattle.law_lists.specs.Lists.{those}
 use Rattle.table.specs.Table.{entries}
@@ -21,6 +19,7 @@ use Rattle.table_counts.specs.Counts.{entryOf}
 use Rattle.frame_writer.specs.Frame.{cknOf}
 use Rattle.participant.specs.Call.{agedTo}
 use Rattle.participant.specs.declared.Participant.{Participant}
+use Rattle.call_judge.specs.Judge.{basicIn, walkIn}
 use Rattle.call_send.specs.Message.{serverFlag, handsOut, keyUseOf, senderOf}
 use Rattle.call_send.specs.Send.{frameAt}
 use Rattle.law_sends.specs.Sendable.{Sendable}
@@ -28,20 +27,19 @@ use Rattle.law_sends.specs.Sendable.{Sendable}
 -- The octets tell of the participant p as it sends, with the two lowest PNs.
 pub record Tells (p : Participant) (latestPn oldPn : ℕ) (octets : List ℕ) : Type 0 where
   -- facts 2 to 5 don't hold, nor 6 and 7 for one who has the same CKN
-  pub basic : Basic
-  pub read : basicOf octets ≡ Read basic
-  pub ckn : fact6 octets basic (cknOf (senderOf p)) ≡ false
-  pub agility : fact7 basic ≡ false
-  pub priority : basic .priority ≡ p .priority
-  pub server : basic .server ≡ serverFlag p
-  pub desired : basic .desired ≡ p .desired
-  pub capability : basic .capability ≡ p .capability
-  pub sci : basic .sci ≡ p .sci
-  pub mi : basic .mi ≡ p .mi
-  pub mn : basic .mn ≡ p .mn + 1
+  pub read : basicOf octets ≡ Read (basicIn octets)
+  pub ckn : fact6 octets (basicIn octets) (cknOf (senderOf p)) ≡ false
+  pub agility : fact7 (basicIn octets) ≡ false
+  pub priority : basicIn octets .priority ≡ p .priority
+  pub server : basicIn octets .server ≡ serverFlag p
+  pub desired : basicIn octets .desired ≡ p .desired
+  pub capability : basicIn octets .capability ≡ p .capability
+  pub sci : basicIn octets .sci ≡ p .sci
+  pub mi : basicIn octets .mi ≡ p .mi
+  pub mn : basicIn octets .mn ≡ p .mn + 1
   -- the walk over the further sets comes to its end
   pub places : Places
-  pub walked : walkOf octets (basic .next) (basic .stop) ≡ End places
+  pub walked : walkIn octets ≡ End places
   -- the peers with their numbers, in table order
   pub live : listAt octets (places .live .place) (places .live .len) ≡ map entryOf (those isLive (entries (p .table)))
   pub potential : listAt octets (places .potential .place) (places .potential .len) ≡ map entryOf (those isPotential (entries (p .table)))

@@ -1,4 +1,5 @@
 pub mod Settled
 pub mod Fields
 pub mod Received
+pub mod Passed
 pub mod Never

@@ -1,7 +1,7 @@
 pub mod Calls
 pub mod Steps
 pub mod Refusals
-pub mod Refusing
+pub mod RefusalsArgument
 pub mod Becomes
 pub mod Splits
 pub mod Clock

@@ -1,13 +1,19 @@
 -- "A refusal has one number, in its order, and changes neither the participant nor one octet of a lent buffer": what that means of a call.
--- Proved in Refusing.
+-- Proved in RefusalsArgument.
 use Prim.Native.Nat.{ℕ}
-use mathlib.Core.List.{List, [], _∷_}
+use mathlib.Core.Path.{_≡_}
+use mathlib.Core.Bool.{Bool}
+use mathlib.Core.List.{List, [], _∷_, map}
 use mathlib.Core.Option.{Option, none, some}
+use mathlib.Core.Logic.{_↔_}
+use Rattle.participant.specs.declared.Participant.{Participant}
+use Rattle.participant.proofs.Settle.{NoneHolds, First}
 use Rattle.participant.specs.declared.call.Answer.the-variants as onCall
 use Rattle.call_receive.specs.declared.Answer.the-variants as onReceive
 use Rattle.call_send.specs.declared.Answer.the-variants as onSend
 use Rattle.frame_writer.specs.declared.Wrote.the-variants as onWrite
-use Rattle.law_history.specs.Calls.{Call, receives, sends, distributes, ticks, renews, reports, asks, saves, Answer, toReceive, toSend, toCall, toAsk, toSave}
+use Rattle.law_history.specs.Calls.{Call, receives, sends, distributes, ticks, renews, reports, asks, saves, Answer, toReceive, toSend, toCall, toAsk, toSave, answerOf, answered}
+use Rattle.law_history.specs.Steps.{facts}
 
 -- The number that an answer carries, if it refuses.
 abbrev pub refusalIn : Answer → Option ℕ
@@ -49,3 +55,23 @@ leftIn (toSend a left) = left
 leftIn (toCall a) = []
 leftIn (toAsk p) = []
 leftIn (toSave a left) = left
+
+-- Each call has just these facts, in this order.
+abbrev pub InOrder : Type 0
+InOrder = (p : Participant) (c : Call) → map (λ (f : ℕ × Bool). f .0) (facts p c) ≡ order c
+
+-- "Each is given exactly when its fact holds and no earlier one does."
+abbrev pub RefusedExactly : Type 0
+RefusedExactly = (p : Participant) (c : Call) (n : ℕ) → (refusalIn (answerOf p c) ≡ some n) ↔ First (facts p c) n
+
+-- and a call is accepted exactly when none holds
+abbrev pub AcceptedExactly : Type 0
+AcceptedExactly = (p : Participant) (c : Call) → (refusalIn (answerOf p c) ≡ none) ↔ NoneHolds (facts p c)
+
+-- "the participant, its clock included, .."
+abbrev pub RefusedSame : Type 0
+RefusedSame = (p : Participant) (c : Call) (n : ℕ) → refusalIn (answerOf p c) ≡ some n → answered p c ≡ p
+
+-- ".. and every lent buffer stay unchanged"
+abbrev pub RefusedLeft : Type 0
+RefusedLeft = (p : Participant) (c : Call) (n : ℕ) → refusalIn (answerOf p c) ≡ some n → leftIn (answerOf p c) ≡ lent c

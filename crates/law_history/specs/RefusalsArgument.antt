@@ -25,7 +25,7 @@ use Rattle.frame_writer.specs.declared.Wrote.the-variants as onWrite
 use Rattle.image.specs.Image.{imageOf}
 use Rattle.law_history.specs.Calls.{Call, receives, sends, distributes, ticks, renews, reports, asks, saves, toReceive, toSend, toCall, toSave, answerOf, answered, accepts}
 use Rattle.law_history.specs.Steps.{facts, facts-numbered, accepted-zero, refused-leaves}
-use Rattle.law_history.specs.Refusals.{refusalIn, order, lent, leftIn}
+use Rattle.law_history.specs.Refusals.{refusalIn, order, lent, leftIn, InOrder, RefusedExactly, AcceptedExactly, RefusedSame, RefusedLeft}
 
 -- a number that is no refusal where it is 0
 abbrev told : ℕ → Option ℕ
@@ -37,17 +37,16 @@ counted [] later n k = not-true (eqb n 0) (first-of (not (eqb n 0)) (numbered la
 counted (f ∷ fs) later n k = counted fs later n (second-of (not (eqb (f .0) 0)) (numbered (fs ++ ((n, true) ∷ later))) k)
 
 module _ (p : Participant) where
-  -- "in its order"
-  pub in-order : (c : Call) → map (λ (f : ℕ × Bool). f .0) (facts p c) ≡ order c
+  ordered : (c : Call) → map (λ (f : ℕ × Bool). f .0) (facts p c) ≡ order c
   unfolding receiveFacts frameFacts tableFacts sendFacts
-  in-order (receives time verdict frame) = refl
-  in-order (sends time latestPn oldPn out) = refl
-  in-order (distributes time wrapped) = refl
-  in-order (ticks time) = refl
-  in-order (renews time m) = refl
-  in-order (reports m kn transmit) = refl
-  in-order asks = refl
-  in-order (saves out) = refl
+  ordered (receives time verdict frame) = refl
+  ordered (sends time latestPn oldPn out) = refl
+  ordered (distributes time wrapped) = refl
+  ordered (ticks time) = refl
+  ordered (renews time m) = refl
+  ordered (reports m kn transmit) = refl
+  ordered asks = refl
+  ordered (saves out) = refl
 
   tells : (c : Call) → refusalIn (answerOf p c) ≡ told (firstOf (facts p c))
   unfolding receivedOf sentOf distributedOf ticked newMiOf reported
@@ -60,8 +59,8 @@ module _ (p : Participant) where
   tells asks = refl
   tells (saves out) = by-cases (ltb (length out) (length (imageOf p))) (λ e. rw e) (λ e. rw e)
 
-  pub refused-exactly : (c : Call) (n : ℕ) → (refusalIn (answerOf p c) ≡ some n) ↔ First (facts p c) n
-  refused-exactly c n = (there, back)
+  refuses : (c : Call) (n : ℕ) → (refusalIn (answerOf p c) ≡ some n) ↔ First (facts p c) n
+  refuses c n = (there, back)
     where
       there : refusalIn (answerOf p c) ≡ some n → First (facts p c) n
       there e =
@@ -78,8 +77,8 @@ module _ (p : Participant) where
           let t : eqb n 0 ≡ false = counted (f .earlier) (f .later) n (ap numbered (sym (f .is)) ∙ facts-numbered p c) in
           tells c ∙ ap told first ∙ rw t
 
-  pub accepted-exactly : (c : Call) → (refusalIn (answerOf p c) ≡ none) ↔ NoneHolds (facts p c)
-  accepted-exactly c = (there, back)
+  admits : (c : Call) → (refusalIn (answerOf p c) ≡ none) ↔ NoneHolds (facts p c)
+  admits c = (there, back)
     where
       there : refusalIn (answerOf p c) ≡ none → NoneHolds (facts p c)
       there e =
@@ -94,25 +93,38 @@ module _ (p : Participant) where
   first-told : (c : Call) (n : ℕ) → refusalIn (answerOf p c) ≡ some n → eqb (firstOf (facts p c)) 0 ≡ false
   first-told c n e = by-cases (eqb (firstOf (facts p c)) 0) (λ z. let t = tells c in let x : none ≡ some n = sym (rw z at t) ∙ e in never (cc)) (λ z. z)
 
-  -- "changes neither the participant"
-  pub refused-same : (c : Call) (n : ℕ) → refusalIn (answerOf p c) ≡ some n → answered p c ≡ p
-  refused-same c n e =
+  same : (c : Call) (n : ℕ) → refusalIn (answerOf p c) ≡ some n → answered p c ≡ p
+  same c n e =
       refused-leaves p c
       (by-cases (accepts p c)
       (λ a. clash (sym (first-told c n e) ∙ eq-eqb (firstOf (facts p c)) 0 (accepted-zero p c a)))
       (λ a. a))
 
-  -- "nor one octet of a lent buffer"
-  pub refused-left : (c : Call) (n : ℕ) → refusalIn (answerOf p c) ≡ some n → leftIn (answerOf p c) ≡ lent c
+  left : (c : Call) (n : ℕ) → refusalIn (answerOf p c) ≡ some n → leftIn (answerOf p c) ≡ lent c
   unfolding leftBy written
-  refused-left (receives time verdict frame) n e = refl
-  refused-left (sends time latestPn oldPn out) n e = rw (first-told (sends time latestPn oldPn out) n e)
-  refused-left (distributes time wrapped) n e = refl
-  refused-left (ticks time) n e = refl
-  refused-left (renews time m) n e = refl
-  refused-left (reports m kn transmit) n e = refl
-  refused-left asks n e = refl
-  refused-left (saves out) n e =
+  left (receives time verdict frame) n e = refl
+  left (sends time latestPn oldPn out) n e = rw (first-told (sends time latestPn oldPn out) n e)
+  left (distributes time wrapped) n e = refl
+  left (ticks time) n e = refl
+  left (renews time m) n e = refl
+  left (reports m kn transmit) n e = refl
+  left asks n e = refl
+  left (saves out) n e =
       by-cases (ltb (length out) (length (imageOf p)))
       (λ t. rw t)
       (λ t. let x = first-told (saves out) n e in clash (sym (rw t at x)))
+
+pub in-order : InOrder
+in-order = ordered
+
+pub refused-exactly : RefusedExactly
+refused-exactly = refuses
+
+pub accepted-exactly : AcceptedExactly
+accepted-exactly = admits
+
+pub refused-same : RefusedSame
+refused-same = same
+
+pub refused-left : RefusedLeft
+refused-left = left

@@ -1,4 +1,7 @@
 pub mod Settled
 pub mod Fields
 pub mod Received
+pub mod Passed
 pub mod Never
+pub mod KeyRecord
+pub mod KeyRecordArgument

@@ -4,6 +4,7 @@ use mathlib.Core.Path.{_≡_, refl}
 use mathlib.Core.Bool.{Bool, true, false}
 use mathlib.Core.List.{List, _∷_}
 use native.Mathlib.Omega.{arith}
+use lib.Dec.{eqb}
 use borrow.Author.Tests.{eqb-false}
 use Rattle.base_facts.specs.Facts.{firstOf}
 use Rattle.base_mi.specs.Mi.{miSame}
@@ -15,28 +16,28 @@ use Rattle.participant.specs.declared.call.Answer.the-variants.{Done}
 use Rattle.participant.specs.declared.call.Called.{Called}
 use Rattle.participant.proofs.Settle.{none-holds, on-done}
 use Rattle.law_calls.specs.Settled.{distributeFacts}
-use Rattle.call_judge.specs.Judge.{basicIn, frameFacts}
-use Rattle.call_receive.specs.Receive.{tableFacts, receiveFacts}
+use Rattle.call_judge.specs.Judge.{basicIn}
+use Rattle.call_receive.specs.Receive.{receiveFacts}
 use Rattle.call_send.specs.Send.{sendFacts}
 use Rattle.law_calls.specs.Received.{accepted-none}
+use Rattle.law_calls.specs.Passed.{receive-passed, send-passed, distribute-passed}
 
 -- fact 10: a frame that is accepted has not our identifier
 pub not-ours : (p : Participant) (time : ℕ) (verdict : Bool) (s : List ℕ) → firstOf (receiveFacts p time verdict s) ≡ 0 → miSame (p .mi) (basicIn s .mi) ≡ false
-unfolding receiveFacts frameFacts tableFacts
-not-ours p time verdict s e = accepted-none p time verdict s e .1 .1 .1 .1 .1 .1 .1 .1 .1 .0
+not-ours p time verdict s e = receive-passed p time verdict s (accepted-none p time verdict s e) .other
 
--- fact 14: a message number that rises is below its limit
+-- fact 14: a number that rises is below its limit
+pub risen : (n : ℕ) → n < 2 ^ 32 → eqb n 4294967295 ≡ false → n + 1 < 2 ^ 32
+risen n h e = let ne = eqb-false n 4294967295 e in omega arith
+
+-- a message number
 pub mn-fits : (p : Participant) (time latestPn oldPn room : ℕ) → p .mn < 2 ^ 32 → firstOf (sendFacts p time latestPn oldPn room) ≡ 0 → p .mn + 1 < 2 ^ 32
 unfolding sendFacts
-mn-fits p time l o room h e =
-    let none = none-holds (sendFacts p time l o room) refl e in
-    let ne = eqb-false (p .mn) 4294967295 (none .1 .0) in
-    omega arith
+mn-fits p time l o room h e = risen (p .mn) h (send-passed p time l o room (none-holds (sendFacts p time l o room) refl e) .mn)
 
--- and so is a key number
+-- and a key number
 pub kn-fits : (p : Participant) (time : ℕ) (w : List ℕ) → p .kn < 2 ^ 32 → distributedOf p time w .answer ≡ Done → p .kn + 1 < 2 ^ 32
 unfolding distributedOf
 kn-fits p time w h e =
     let none = on-done p (withFresh (agedTo p time) (first24 w)) ((1, fact1 p time) ∷ distributeFacts p time w) refl e .1 in
-    let ne = eqb-false (p .kn) 4294967295 (none .1 .1 .1 .0) in
-    omega arith
+    risen (p .kn) h (distribute-passed p time w none .kn)

@@ -4,7 +4,6 @@ use mathlib.Core.Path.{_≡_, refl, ap, _∙_}
 use mathlib.Core.Bool.{Bool, cond, _&&_}
 use mathlib.Core.List.{List, []}
 use mathlib.Core.Option.{Option, none, some}
-use borrow.Author.Tests.{ltb-false}
 use Rattle.base_mi.specs.Mi.{miSame}
 use Rattle.base_mi.specs.declared.Mi.{Mi}
 use Rattle.table_expiry.specs.Expiry.{expired}
@@ -23,14 +22,15 @@ use Rattle.participant.specs.Keys.{withKey}
 use Rattle.participant.specs.declared.Participant.{Participant}
 use Rattle.participant.proofs.Settle.{NoneHolds}
 use Rattle.law_calls.specs.Fields.{create-empty}
-use Rattle.call_judge.specs.Judge.{basicIn, frameFacts}
-use Rattle.call_receive.specs.Receive.{heardOf, tableFacts, receiveFacts}
-use Rattle.call_send.specs.Send.{sendFacts, sentAt}
+use Rattle.law_calls.specs.Passed.{receive-passed}
+use Rattle.call_judge.specs.Judge.{basicIn}
+use Rattle.call_receive.specs.Receive.{heardOf}
+use Rattle.call_send.specs.Send.{sentAt}
 use Rattle.law_history.specs.Calls.{Creation, created, Call, receives, sends, distributes, ticks, renews, reports, asks, saves, after, folded}
 use Rattle.law_history.specs.Steps.{facts, becomes, accepted-none}
-use Rattle.law_history.specs.Becomes.{proves, effect, received-table}
+use Rattle.law_history.specs.Becomes.{proves, effect, received-table, not-before}
 use Rattle.law_history.specs.Splits.{carry}
-use Rattle.law_history.specs.Table.{Keeps, keeps-becomes, keeps}
+use Rattle.law_history.specs.TableArgument.{Keeps, keeps-becomes, keeps}
 
 -- a frame is of m's and is a proof
 abbrev pub provesOf : Participant → Mi → List ℕ → Bool
@@ -64,13 +64,14 @@ module _ (p : Participant) (m : Mi) (x : Option ℕ) (k : Keeps p) (e : Holds p 
 
   holds-received : (time : ℕ) (verdict : Bool) (frame : List ℕ) → NoneHolds (facts p (receives time verdict frame))
       → provedAt (heldIn m (entered (heardOf (basicIn frame)) (proves p frame) time (expired time (p .table)))) ≡ agedProof time (cond (provesOf p m frame) (some time) x)
-  unfolding receiveFacts frameFacts tableFacts agedTo heardOf
+  unfolding agedTo heardOf
   holds-received time verdict frame h =
       let t = expired time (p .table) in
       let heard = heardOf (basicIn frame) in
       let whole = whole-tidy t (tidy-expired time (p .table) (k .tidy)) in
-      let aged = holds-aged time (ltb-false time (p .clock) (h .0)) in
-      let room = h .1 .1 .1 .1 .1 .1 .1 .1 .1 .1 .1 .0 in
+      let f = receive-passed p time verdict frame h in
+      let aged = holds-aged time (f .onward) in
+      let room = f .room in
       by-cases (miSame m (basicIn frame .mi))
       (λ s.
       let mi = same-eq m (basicIn frame .mi) s in
@@ -80,12 +81,12 @@ module _ (p : Participant) (m : Mi) (x : Option ℕ) (k : Keeps p) (e : Holds p 
       (λ s. proved-other heard (proves p frame) time t whole m s ∙ rw s aged)
 
 holds-becomes : (p : Participant) (m : Mi) (x : Option ℕ) (c : Call) → NoneHolds (facts p c) → Keeps p → Holds p m x → Holds (becomes p c) m (proofBy p m c x)
-unfolding sentAt agedTo withFresh withKey renewed sendFacts
+unfolding sentAt agedTo withFresh withKey renewed
 holds-becomes p m x (receives time verdict frame) h k e =
     rw (received-table p time verdict frame, effect p (receives time verdict frame) .clock) (holds-received p m x k e time verdict frame h)
-holds-becomes p m x (sends time latestPn oldPn out) h k e = holds-aged p m x k e time (ltb-false time (p .clock) (h .0))
-holds-becomes p m x (distributes time wrapped) h k e = holds-aged p m x k e time (ltb-false time (p .clock) (h .0))
-holds-becomes p m x (ticks time) h k e = holds-aged p m x k e time (ltb-false time (p .clock) (h .0))
+holds-becomes p m x (sends time latestPn oldPn out) h k e = holds-aged p m x k e time (not-before p (sends time latestPn oldPn out) h)
+holds-becomes p m x (distributes time wrapped) h k e = holds-aged p m x k e time (not-before p (distributes time wrapped) h)
+holds-becomes p m x (ticks time) h k e = holds-aged p m x k e time (not-before p (ticks time) h)
 holds-becomes p m x (renews time own) h k e = empty-proved m
 holds-becomes p m x (reports mi kn transmit) h k e = e
 holds-becomes p m x asks h k e = e

@@ -1,7 +1,7 @@
 -- Histories taken apart and put together.
 use Prim.Native.Nat.{ℕ}
 use mathlib.Core.Path.{_≡_, refl, ap, sym, _∙_}
-use mathlib.Core.Bool.{true, false}
+use mathlib.Core.Bool.{Bool, true, false}
 use mathlib.Core.List.{List, [], _∷_, _++_}
 use Rattle.base_mi.specs.declared.Mi.{Mi}
 use Rattle.call_creation.specs.Create.{badStart, fresh, emptyParticipant}
@@ -10,9 +10,9 @@ use Rattle.participant.specs.declared.call.Called.{Called}
 use Rattle.participant.specs.declared.call.Answer.the-variants.{Done}
 use Rattle.participant.proofs.Settle.{on-done}
 use Rattle.law_calls.specs.Settled.{create-settles}
-use Rattle.law_lists.specs.Laws.{by-cases, never}
+use Rattle.law_lists.specs.Laws.{by-cases, never, clash}
 use lib.ListN.{length}
-use Rattle.law_history.specs.Calls.{Creation, created, Call, renews, answered, played, after, accepts, accepted, folded, identifierAfter, handed, identifier, keysDistributed, Made, NoneTaken}
+use Rattle.law_history.specs.Calls.{Creation, created, Call, receives, sends, distributes, ticks, renews, reports, asks, saves, answered, played, after, accepts, accepted, folded, identifierAfter, handed, identifier, keysDistributed, Made, NoneTaken}
 use Rattle.law_history.specs.Steps.{becomes, refused-leaves, accepted-becomes}
 use Rattle.law_history.specs.Becomes.{effect}
 
@@ -90,3 +90,28 @@ module _ (k : Creation) (ok : created k .answer ≡ Done) where
   capable cs =
       always k (λ p. p .capability ≡ k .capability) (ap (λ (p : Participant). p .capability) (start k ok))
       (λ p c e h. effect p c .capability ∙ h) cs
+
+-- ---- our identifier stays where none is taken
+
+module _ (k : Creation) where
+  pub identifier-kept : (cs : List Call) (c : Call) → ((time : ℕ) (m : Mi) → c ≡ renews time m → accepted k cs c ≡ false) → identifier k (c ∷ cs) ≡ identifier k cs
+  identifier-kept cs c one = by-cases (accepted k cs c) (λ e. rw e (by-call c e one)) (λ e. rw e)
+    where
+      by-call : (d : Call) → accepted k cs d ≡ true → ((time : ℕ) (m : Mi) → d ≡ renews time m → accepted k cs d ≡ false) → identifierAfter d (identifier k cs) ≡ identifier k cs
+      by-call (receives time verdict frame) e none = refl
+      by-call (sends time latestPn oldPn out) e none = refl
+      by-call (distributes time wrapped) e none = refl
+      by-call (ticks time) e none = refl
+      by-call (renews time m) e none = clash (sym (none time m refl) ∙ e)
+      by-call (reports m kn transmit) e none = refl
+      by-call asks e none = refl
+      by-call (saves out) e none = refl
+
+  pub identifier-received : (cs : List Call) (time : ℕ) (verdict : Bool) (frame : List ℕ) → identifier k (receives time verdict frame ∷ cs) ≡ identifier k cs
+  identifier-received cs time verdict frame = identifier-kept cs (receives time verdict frame) (λ t m e. never (cc))
+
+  pub identifier-since : (later earlier : List Call) → NoneTaken k later earlier → identifier k (later ++ earlier) ≡ identifier k earlier
+  identifier-since [] earlier none = refl
+  identifier-since (c ∷ later) earlier none =
+      identifier-kept (later ++ earlier) c (λ time m e. ap (accepted k (later ++ earlier)) e ∙ none [] later time m (ap (λ (d : Call). d ∷ later) e))
+      ∙ identifier-since later earlier (taken-before k c later earlier none)

@@ -90,7 +90,7 @@ module _ (p : Participant) where
   settles asks = (refl, refl)
   settles (saves out) = saved-cases (ltb (length out) (length (imageOf p))) p (length (imageOf p)) (written out (imageOf p))
 
-  facts-numbered : (c : Call) → numbered (facts p c) ≡ true
+  pub facts-numbered : (c : Call) → numbered (facts p c) ≡ true
   unfolding receiveFacts frameFacts tableFacts sendFacts
   facts-numbered (receives time verdict frame) = refl
   facts-numbered (sends time latestPn oldPn out) = refl

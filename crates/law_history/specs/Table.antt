@@ -1,80 +1,24 @@
--- The table after any history: at most 16 entries, no identifier twice, and never our own.
+-- The table after any history: at most 16 entries, no identifier twice, and never our own. Proved in TableArgument.
 use Prim.Native.Nat.{ℕ, _≤_}
-use mathlib.Core.Path.{_≡_, refl, ap, sym, _∙_}
-use mathlib.Core.Bool.{true}
-use mathlib.Core.List.{List, [], _∷_, _++_, List·Memᴰ, List·Memᴰ·head, Memᴰ·append-right}
+use mathlib.Core.Path.{_≡_}
+use mathlib.Core.List.{List, _∷_, _++_, List·Memᴰ}
 use lib.ListN.{length}
-use borrow.Author.Tests.{ltb-false}
-use Rattle.table_expiry.specs.Kept.{Kept, absent, distinct}
 use Rattle.table.specs.Table.{entries}
-use Rattle.table_expiry.specs.Expiry.{expired}
 use Rattle.table.specs.declared.Peer.{Peer}
-use Rattle.table.specs.declared.Table.{Table}
-use Rattle.law_lists.specs.Laws.{first-of, second-of}
-use Rattle.table_expiry.proofs.Aging.{at-most-16, count-tidy}
-use Rattle.law_kept.specs.Apart.{absent-clash}
-use Rattle.law_kept.specs.Keeping.{kept-empty, kept-expired, kept-entered}
-use Rattle.participant.specs.Call.{agedTo}
-use Rattle.call_changes.specs.Renew.{renewed}
-use Rattle.call_distribute.specs.Distribute.{withFresh}
-use Rattle.participant.specs.Keys.{withKey}
-use Rattle.participant.specs.declared.Participant.{Participant}
 use Rattle.participant.specs.declared.call.Answer.the-variants.{Done}
-use Rattle.participant.proofs.Settle.{NoneHolds}
-use Rattle.law_calls.specs.Fields.{create-empty}
-use Rattle.call_judge.specs.Judge.{basicIn, frameFacts}
-use Rattle.call_receive.specs.Receive.{heardOf, tableFacts, receiveFacts}
-use Rattle.call_send.specs.Send.{sendFacts, sentAt}
-use Rattle.law_history.specs.Calls.{Creation, created, Call, receives, sends, distributes, ticks, renews, reports, asks, saves, after, identifier}
-use Rattle.law_history.specs.Steps.{facts, becomes, accepted-none}
-use Rattle.law_history.specs.Becomes.{proves, effect, received-table}
-use Rattle.law_history.specs.Splits.{always, own}
+use Rattle.law_history.specs.Calls.{Creation, created, Call, after, identifier}
 
--- All that the layers below keep of a table, at the participant's clock.
-abbrev pub Keeps : Participant → Type 0
-Keeps p = Kept (p .mi) (p .clock) (p .table)
+abbrev pub peersAfter : Creation → List Call → List Peer
+peersAfter k cs = entries (after k cs .table)
 
-keeps-aged : (p : Participant) (time : ℕ) → p .clock ≤ time → Keeps p → Kept (p .mi) time (expired time (p .table))
-keeps-aged p time h k = kept-expired (p .mi) (p .clock) time (p .table) h k
+-- "At most 16 peers", and the count is their number
+abbrev pub NeverOver16 : Type 0
+NeverOver16 = (k : Creation) → created k .answer ≡ Done → (cs : List Call) → (after k cs .table .count ≡ length (peersAfter k cs)) × (length (peersAfter k cs) ≤ 16)
 
-pub keeps-becomes : (p : Participant) (c : Call) → NoneHolds (facts p c) → Keeps p → Keeps (becomes p c)
-unfolding receiveFacts frameFacts tableFacts sendFacts sentAt agedTo withFresh withKey renewed heardOf
-keeps-becomes p (receives time verdict frame) h k =
-    let f10 = h .1 .1 .1 .1 .1 .1 .1 .1 .1 in
-    rw (effect p (receives time verdict frame) .mi, effect p (receives time verdict frame) .clock, received-table p time verdict frame)
-    (kept-entered (p .mi) (heardOf (basicIn frame)) (proves p frame) time (expired time (p .table)) (f10 .0) (f10 .1 .0) (f10 .1 .1 .0)
-    (keeps-aged p time (ltb-false time (p .clock) (h .0)) k))
-keeps-becomes p (sends time latestPn oldPn out) h k = keeps-aged p time (ltb-false time (p .clock) (h .0)) k
-keeps-becomes p (distributes time wrapped) h k = keeps-aged p time (ltb-false time (p .clock) (h .0)) k
-keeps-becomes p (ticks time) h k = keeps-aged p time (ltb-false time (p .clock) (h .0)) k
-keeps-becomes p (renews time m) h k = kept-empty m time
-keeps-becomes p (reports m kn transmit) h k = k
-keeps-becomes p asks h k = k
-keeps-becomes p (saves out) h k = k
+abbrev pub NeverTwice : Type 0
+NeverTwice =
+    (k : Creation) → created k .answer ≡ Done → (cs : List Call) (a b c : List Peer) (x y : Peer)
+    → peersAfter k cs ≡ a ++ (x ∷ (b ++ (y ∷ c))) → x .mi ≡ y .mi → ⊥
 
-keeps-start : (k : Creation) → Keeps (created k .participant)
-unfolding created
-keeps-start k = rw (create-empty (k .time) (k .mi) (k .sci) (k .priority) (k .capability) (k .desired) (k .ckn) .0 .table) (kept-empty _ _)
-
-pub keeps : (k : Creation) (cs : List Call) → Keeps (after k cs)
-keeps k cs = always k Keeps (keeps-start k) (λ p c e h. keeps-becomes p c (accepted-none p c e) h) cs
-
--- past an entry its identifier doesn't stand again
-past : (a b : List Peer) (x : Peer) → distinct (a ++ (x ∷ b)) ≡ true → absent (x .mi) b ≡ true
-past [] b x d = first-of (absent (x .mi) b) (distinct b) d
-past (y ∷ a) b x d = past a b x (second-of (absent (y .mi) (a ++ (x ∷ b))) (distinct (a ++ (x ∷ b))) d)
-
-module _ (k : Creation) (ok : created k .answer ≡ Done) (cs : List Call) where
-  abbrev pub table : Table
-  table = after k cs .table
-
-  pub never-over-16 : (table .count ≡ length (entries table)) × (length (entries table) ≤ 16)
-  never-over-16 = (count-tidy table (keeps k cs .tidy), at-most-16 table)
-
-  pub never-twice : (a b c : List Peer) (x y : Peer) → entries table ≡ a ++ (x ∷ (b ++ (y ∷ c))) → x .mi ≡ y .mi → ⊥
-  never-twice a b c x y e s =
-      let d : distinct (a ++ (x ∷ (b ++ (y ∷ c)))) ≡ true = ap distinct (sym e) ∙ keeps k cs .apart in
-      absent-clash (x .mi) (b ++ (y ∷ c)) y (past a (b ++ (y ∷ c)) x d) (Memᴰ·append-right b (List·Memᴰ·head refl)) s
-
-  pub never-ourselves : (x : Peer) → List·Memᴰ x (entries table) → x .mi ≡ identifier k cs → ⊥
-  never-ourselves x m e = absent-clash (after k cs .mi) (entries table) x (keeps k cs .others) m (own k ok cs ∙ sym e)
+abbrev pub NeverOurselves : Type 0
+NeverOurselves = (k : Creation) → created k .answer ≡ Done → (cs : List Call) (x : Peer) → List·Memᴰ x (peersAfter k cs) → x .mi ≡ identifier k cs → ⊥

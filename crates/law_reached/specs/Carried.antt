@@ -1,14 +1,9 @@
--- What a call can carry: each number has its width and each octet 8 bits. And the induction over histories of such calls.
+-- What a creation and a call can carry: each number has its width and each octet 8 bits.
 use Prim.Native.Nat.{_^_, _<_}
 use mathlib.Core.List.{List, [], _∷_}
 use Rattle.base_octets.proofs.Laws.{Octets}
 use Rattle.base_mi.proofs.Laws.{Fitting}
-use Rattle.law_lists.specs.Laws.{by-cases}
-use Rattle.participant.specs.declared.Participant.{Participant}
-use Rattle.participant.proofs.Settle.{NoneHolds}
-use Rattle.law_history.specs.Calls.{Creation, Call, receives, sends, distributes, ticks, renews, reports, asks, saves, after, accepted}
-use Rattle.law_history.specs.Steps.{facts, becomes, accepted-none}
-use Rattle.law_history.specs.Splits.{after-accepted, after-refused}
+use Rattle.law_history.specs.Calls.{Creation, Call, receives, sends, distributes, ticks, renews, reports, asks, saves}
 
 -- "Creating takes a time, MI, SCI, priority, capability, desired flag and CKN"
 pub record Given (k : Creation) : Type 0 where
@@ -33,13 +28,3 @@ Carried (saves out) = Octets out
 abbrev pub AllCarried : List Call → Type 0
 AllCarried [] = Unit {0}
 AllCarried (c ∷ cs) = Carried c × AllCarried cs
-
--- what holds of the created participant and is kept by each accepted call holds after any history
-pub throughout {κ} : (k : Creation) (P : Participant → Type κ) → P (after k [])
-    → ((p : Participant) (c : Call) → NoneHolds (facts p c) → Carried c → P p → P (becomes p c))
-    → (cs : List Call) → AllCarried cs → P (after k cs)
-throughout k P first next [] h = first
-throughout k P first next (c ∷ cs) h =
-    by-cases (accepted k cs c)
-    (λ e. rw (after-accepted k cs c e) (next (after k cs) c (accepted-none (after k cs) c e) (h .0) (throughout k P first next cs (h .1))))
-    (λ e. rw (after-refused k cs c e) (throughout k P first next cs (h .1)))

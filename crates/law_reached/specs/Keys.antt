@@ -25,9 +25,11 @@ use Rattle.participant.specs.declared.Participant.{Participant}
 use Rattle.participant.specs.declared.call.Answer.the-variants.{Done}
 use Rattle.participant.proofs.Settle.{NoneHolds}
 use Rattle.law_calls.specs.Fields.{an-below}
-use Rattle.call_judge.specs.Judge.{basicIn, frameFacts}
+use Rattle.law_calls.specs.Passed.{receive-passed, distribute-passed, renew-passed}
+use Rattle.law_calls.specs.Never.{risen}
+use Rattle.call_judge.specs.Judge.{basicIn}
 use Rattle.call_hearing.specs.Keys.{isKnown, keyFrom, keyedOf}
-use Rattle.call_receive.specs.Receive.{admitted, tableFacts, receiveFacts, updatedBy, acceptedBy}
+use Rattle.call_receive.specs.Receive.{admitted, updatedBy, acceptedBy}
 use Rattle.call_send.specs.Send.{sentAt}
 use Rattle.image_rules.specs.Rules.{only, useGood, keyGood, slotGood, keysGood}
 use Rattle.law_reread.specs.Fit.{FitKey}
@@ -38,7 +40,7 @@ use Rattle.law_history.specs.Becomes.{updatedIn, by-keyed}
 use Rattle.law_history.specs.Splits.{start}
 use Rattle.law_history.specs.Keys.{sakSpot, sakRead}
 use Rattle.law_reached.specs.Carried.{Carried}
-use Rattle.law_reached.specs.Own.{Own, risen}
+use Rattle.law_reached.specs.Own.{Own}
 use Rattle.law_reached.specs.Peers.{sender-fits}
 use Rattle.law_reached.specs.Sak.{Carries, handed-out}
 
@@ -239,13 +241,13 @@ unfolding fresh
 keys-start k ok = rw (start k ok) (no-keys (k .mi) 0)
 
 pub keys-becomes : (p : Participant) (c : Call) → NoneHolds (facts p c) → Carried c → Own p → KeysOf p → KeysOf (becomes p c)
-unfolding receiveFacts frameFacts tableFacts sentAt agedTo withFresh withKey freshKey renewed inUse
-keys-becomes p (receives time verdict frame) h v o k = received p time verdict frame (h .1 .1 .1 .1 .1 .1 .1 .1 .1 .0) (v .1) k
+unfolding sentAt agedTo withFresh withKey freshKey renewed inUse
+keys-becomes p (receives time verdict frame) h v o k = received p time verdict frame (receive-passed p time verdict frame h .other) (v .1) k
 keys-becomes p (sends time latestPn oldPn out) h v o k = k
-keys-becomes p (distributes time wrapped) h v o k = distributed p o (h .1 .1 .1 .0) k
+keys-becomes p (distributes time wrapped) h v o k = distributed p o (distribute-passed p time wrapped h .kn) k
 keys-becomes p (ticks time) h v o k = k
 keys-becomes p (renews time m) h v o k =
-    let f19 = or-false (miSame (p .mi) m) (ofMember (p .latest) m || ofMember (p .old) m) (h .1 .0) .1 in
+    let f19 = or-false (miSame (p .mi) m) (ofMember (p .latest) m || ofMember (p .old) m) (renew-passed p time m h .unused) .1 in
     let f = or-false (ofMember (p .latest) m) (ofMember (p .old) m) f19 in
     record {
       latest = renamed (p .mi) m (p .kn) (p .latest) (f .0) (k .latest);

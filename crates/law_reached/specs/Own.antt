@@ -7,7 +7,7 @@ use native.Mathlib.Omega.{arith}
 use lib.ListN.{length, drop, replicate}
 use lib.Seq.{length-sets, sets-eq, drop-at}
 use lib.Dec.{eqb, ltb}
-use borrow.Author.Tests.{le-leb, ltb-false, eqb-false, ne-eqb}
+use borrow.Author.Tests.{le-leb, ltb-false, ne-eqb}
 use Rattle.base_mi.proofs.Laws.{Fitting}
 use Rattle.frame_sets.proofs.Laws.{or-false}
 use Rattle.law_lists.specs.Laws.{both}
@@ -22,8 +22,10 @@ use Rattle.participant.specs.declared.call.Called.{Called}
 use Rattle.participant.specs.declared.call.Answer.the-variants.{Done}
 use Rattle.participant.proofs.Settle.{NoneHolds, on-done}
 use Rattle.law_calls.specs.Settled.{create-settles}
+use Rattle.law_calls.specs.Passed.{send-passed, distribute-passed}
+use Rattle.law_calls.specs.Never.{risen}
 use Rattle.call_receive.specs.Receive.{admitted, updatedBy}
-use Rattle.call_send.specs.Send.{sendFacts, sentAt}
+use Rattle.call_send.specs.Send.{sentAt}
 use Rattle.image_rules.specs.Rules.{zeros, unsentZero, undistributedZero, unusedZero, ownGood}
 use Rattle.law_reread.specs.Fit.{FitOwn}
 use Rattle.law_history.specs.Calls.{Creation, created, Call, receives, sends, distributes, ticks, renews, reports, asks, saves, after}
@@ -134,15 +136,11 @@ received p time verdict frame o =
     rw (received-leaves p time verdict frame)
     (record { mi = o .mi; sci = o .sci; clock = o .clock; start = o .start; sending = o .sending; distributing = o .distributing })
 
--- fact 14: a number that rises has its width
-pub risen : (n : ℕ) → n < 2 ^ 32 → eqb n 4294967295 ≡ false → n + 1 < 2 ^ 32
-risen n h e = let ne = eqb-false n 4294967295 e in omega arith
-
 some : (n : ℕ) → eqb (n + 1) 0 ≡ false
 some n = ne-eqb (n + 1) 0 (λ e. omega arith)
 
 pub own-becomes : (p : Participant) (c : Call) → NoneHolds (facts p c) → Carried c → Own p → Own (becomes p c)
-unfolding sendFacts sentAt agedTo withFresh withKey renewed
+unfolding sentAt agedTo withFresh withKey renewed
 own-becomes p (receives time verdict frame) h v o =
     received p time verdict frame (aged p time (not-before p (receives time verdict frame) h) (v .0) o)
 own-becomes p (sends time latestPn oldPn out) h v o =
@@ -152,7 +150,7 @@ own-becomes p (sends time latestPn oldPn out) h v o =
       sci = o .sci;
       clock = v .0;
       start = o .start;
-      sending = record { width = risen (p .mn) (o .sending .width) (h .1 .0); unused = rw (some (p .mn)); past = omega arith };
+      sending = record { width = risen (p .mn) (o .sending .width) (send-passed p time latestPn oldPn (length out) h .mn); unused = rw (some (p .mn)); past = omega arith };
       distributing = a .distributing;
     }
 own-becomes p (distributes time wrapped) h v o =
@@ -164,7 +162,7 @@ own-becomes p (distributes time wrapped) h v o =
       start = o .start;
       sending = a .sending;
       distributing = record {
-        width = risen (p .kn) (o .distributing .width) (h .1 .1 .1 .0);
+        width = risen (p .kn) (o .distributing .width) (distribute-passed p time wrapped h .kn);
         unused = rw (some (p .kn));
         past = omega arith;
         long = length-sets (replicate 24 0) 0 wrapped;

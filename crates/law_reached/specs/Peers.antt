@@ -30,8 +30,9 @@ use Rattle.participant.specs.Keys.{withKey}
 use Rattle.participant.specs.declared.Participant.{Participant}
 use Rattle.participant.specs.declared.call.Answer.the-variants.{Done}
 use Rattle.participant.proofs.Settle.{NoneHolds}
-use Rattle.call_judge.specs.Judge.{basicIn, frameFacts}
-use Rattle.call_receive.specs.Receive.{heardOf, tableFacts, receiveFacts}
+use Rattle.law_calls.specs.Passed.{receive-passed}
+use Rattle.call_judge.specs.Judge.{basicIn}
+use Rattle.call_receive.specs.Receive.{heardOf}
 use Rattle.call_send.specs.Send.{sentAt}
 use Rattle.image_rules.specs.Rules.{twoBits}
 use Rattle.law_reread.specs.Fit.{FitPeer, FitPeers}
@@ -39,7 +40,7 @@ use Rattle.law_history.specs.Calls.{Creation, created, Call, receives, sends, d
 use Rattle.law_history.specs.Steps.{facts, becomes}
 use Rattle.law_history.specs.Becomes.{proves, received-table}
 use Rattle.law_history.specs.Splits.{start}
-use Rattle.law_history.specs.Table.{Keeps}
+use Rattle.law_history.specs.TableArgument.{Keeps}
 use Rattle.law_reached.specs.Carried.{Carried}
 
 pub record Entries (l : List Peer) : Type 0 where
@@ -128,9 +129,9 @@ unfolding fresh
 peers-start k ok = rw (start k ok, entries-empty) none-yet
 
 pub peers-becomes : (p : Participant) (c : Call) → NoneHolds (facts p c) → Carried c → Keeps p → Peers p → Peers (becomes p c)
-unfolding receiveFacts frameFacts tableFacts sentAt agedTo withFresh withKey renewed heardOf
+unfolding sentAt agedTo withFresh withKey renewed heardOf
 peers-becomes p (receives time verdict frame) h v k e =
-    let room = h .1 .1 .1 .1 .1 .1 .1 .1 .1 .1 .1 .0 in
+    let room = receive-passed p time verdict frame h .room in
     rw (received-table p time verdict frame)
     (heard (heardOf (basicIn frame)) (proves p frame) time (said frame (v .1)) (v .0) (expired time (p .table))
     (tidy-expired time (p .table) (k .tidy)) room (aged time (p .table) e))

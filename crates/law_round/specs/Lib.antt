@@ -2,3 +2,5 @@ pub mod Ranged
 pub mod Basic
 pub mod Sets
 pub mod Round
+pub mod RoundTrip
+pub mod RoundTripArgument

@@ -1,4 +1,5 @@
 pub mod WellFormed
+pub mod Saved
 pub mod Told
 pub mod Back
-pub mod Saved
+pub mod SavedArgument

@@ -1,2 +1,4 @@
 pub mod Sendable
+pub mod Ranged
 pub mod Sent
+pub mod SentArgument

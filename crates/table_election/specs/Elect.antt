@@ -7,8 +7,6 @@ use Rattle.base_mi.specs.declared.Mi.{Mi}
 use Rattle.table.specs.declared.Peer.{Peer}
 use Rattle.table.specs.declared.Table.{Table}
 use Rattle.table_election.specs.declared.Rank.{Rank}
-use Rattle.table_election.specs.declared.Lead.{Lead}
-use Rattle.table_election.specs.declared.Lead.the-variants.{Neither, By}
 use Rattle.table_election.specs.declared.Server.{Server}
 use Rattle.table_election.specs.declared.Server.the-variants.{Nobody, Ourselves, Elected}
 use Rattle.law_lists.specs.Lists.{those}
@@ -30,6 +28,17 @@ lower a b = lex (a .priority) (b .priority) (lex (a .sci) (b .sci) (lowerMi (a .
 abbrev pub rankOf : Peer → Rank
 rankOf p = record { priority = p .priority; sci = p .sci; mi = p .mi }
 
+-- One that may be elected: who is Key Server then, and what it is compared by.
+pub record Candidate : Type 0 where
+  pub who : Server
+  pub rank : Rank
+
+abbrev pub ourselves : Rank → Candidate
+ourselves own = record { who = Ourselves; rank = own }
+
+abbrev pub peerOf : Peer → Candidate
+peerOf p = record { who = Elected (p .mi); rank = rankOf p }
+
 -- "those whose priority isn't 255"
 abbrev pub mayLead : ℕ → Bool
 mayLead priority = not (eqb priority 255)
@@ -38,35 +47,23 @@ mayLead priority = not (eqb priority 255)
 abbrev pub eligible : Peer → Bool
 eligible p = isLive p && (p .server && mayLead (p .priority))
 
--- The ranks of the peers that may be elected.
-abbrev pub contenders : List Peer → List Rank
-contenders l = map rankOf (those eligible l)
+abbrev pub contenders : List Peer → List Candidate
+contenders l = map peerOf (those eligible l)
 
--- "of ourselves and the Live peers": the ranks of all that may be elected.
-abbrev pub candidates : Rank → List Peer → List Rank
-candidates own l = cond (mayLead (own .priority)) (own ∷ contenders l) (contenders l)
+-- "of ourselves and the Live peers, those whose priority isn't 255"
+abbrev pub candidates : Rank → List Peer → List Candidate
+candidates own l = cond (mayLead (own .priority)) (ourselves own ∷ contenders l) (contenders l)
 
--- Who leads after one more has come: who was lower stays, also on a tie.
-abbrev pub challenged : Lead → Rank → Lead
-challenged Neither r = By false r
-challenged (By ours q) r = cond (lower r q) (By false r) (By ours q)
-
-abbrev pub leader : Lead → List Rank → Lead
-leader lead [] = lead
-leader lead (r ∷ rs) = leader (challenged lead r) rs
-
-abbrev pub leadStep : Lead → Peer → Lead
-leadStep lead p = cond (eligible p) (challenged lead (rankOf p)) lead
+-- The one that wins against those that follow; on a tie the earlier.
+abbrev pub least : Candidate → List Candidate → Candidate
+least c [] = c
+least c (d ∷ ds) = least (cond (lower (d .rank) (c .rank)) d c) ds
 
 -- "None left: nobody."
-abbrev pub serverOf : Lead → Server
-serverOf Neither = Nobody
-serverOf (By ours q) = cond ours Ourselves (Elected (q .mi))
+abbrev pub winner : List Candidate → Server
+winner [] = Nobody
+winner (c ∷ cs) = least c cs .who
 
--- "of ourselves": the lead before any peer.
-abbrev pub startOf : Rank → Lead
-startOf own = cond (mayLead (own .priority)) (By true own) Neither
-
--- "With no Live peer: nobody."
+-- "With no Live peer: nobody. Otherwise, .."
 unfoldable pub elected : Rank → Table → Server
-elected own t = cond (eqb (liveCount t) 0) Nobody (serverOf (leader (startOf own) (contenders (entries t))))
+elected own t = cond (eqb (liveCount t) 0) Nobody (winner (candidates own (entries t)))

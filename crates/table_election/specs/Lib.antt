@@ -1,1 +1,2 @@
 pub mod Elect
+pub mod Lead

@@ -4,7 +4,8 @@ use table::Peer;
 use table::ROOM;
 use table::Table;
 ghost use mathlib.Core.Path.{_≡_};
-ghost use Rattle.table_election.specs.Elect.{lowerMi, lower, rankOf, mayLead, eligible, challenged, leadStep, serverOf, startOf, elected};
+ghost use Rattle.table_election.specs.Elect.{lowerMi, lower, rankOf, mayLead, eligible, elected};
+ghost use Rattle.table_election.specs.Lead.{challenged, leadStep, serverLed, firstLead};
 
 // What candidates are compared by.
 #[repr(C)]
@@ -113,7 +114,7 @@ fn lead_step(lead: Lead, p: Peer) -> Lead
 }
 
 fn server_of(lead: Lead) -> Server
-    ensures { λ x. ⌜ x ≡ serverOf lead ⌝ }
+    ensures { λ x. ⌜ x ≡ serverLed lead ⌝ }
 {
     match lead {
         Lead::Neither => Server::Nobody,
@@ -128,7 +129,7 @@ fn server_of(lead: Lead) -> Server
 }
 
 fn start(own: Rank) -> Lead
-    ensures { λ x. ⌜ x ≡ startOf own ⌝ }
+    ensures { λ x. ⌜ x ≡ firstLead own ⌝ }
 {
     if may_lead(own.priority) {
         return Lead::By(true, own);

@@ -1,19 +1,20 @@
--- Invariant: the lead and the contenders left give the leader that the start and all of them give.
+-- Invariant: the lead and the ranks left give the leader that the start and all of them give.
 use Prim.Native.Nat.{_+_, _-_, _≤_}
 use mathlib.Core.Path.{_≡_, refl, ap, sym, _∙_}
 use lib.ListN.{length, length-map, take, drop, getD}
 use borrow.Author.Tests.{ne-eqb}
 use borrow.Author.Needs.{needs}
-use Rattle.table.specs.Table.{blankPeer}
+use Rattle.table.specs.Table.{entries, blankPeer}
 use Rattle.table_counts.specs.Counts.{liveCount}
-use Rattle.table_election.specs.Elect.{contenders, leader, serverOf, elected}
+use Rattle.table_election.specs.Elect.{elected}
+use Rattle.table_election.specs.Lead.{leader, ranks, serverLed}
 use Rattle.law_lists.specs.Laws.{loop-next, drop-end}
-use Rattle.table_election.proofs.Least.{leader-step}
+use Rattle.table_election.proofs.Least.{leader-step, led-winner}
 use Rattle.table_election.proofs.elect.Statement.{statement}
 use Rattle.table_election.proofs.elect.Tie as tie
 
 abbrev Inv-loop : tie.InvT-loop
-Inv-loop peers n lead₀ i₀ lead i = (i ≤ n) × (leader lead (contenders (drop i (take n peers))) ≡ leader lead₀ (contenders (take n peers)))
+Inv-loop peers n lead₀ i₀ lead i = (i ≤ n) × (leader lead (ranks (drop i (take n peers))) ≡ leader lead₀ (ranks (take n peers)))
 
 abbrev μ-loop : tie.MeasureT-loop
 μ-loop peers n lead₀ i₀ lead i = n - i
@@ -75,7 +76,7 @@ returns-2 c =
     let s = i .before .before in
     let e = rw (drop-end _ (l .loop .i) (s .args .t .peers) (c .before .loop-test .left), u .at-most .ensures, l .before .start .ensures) at (l .loop .inv .1) in
     let z : liveCount (s .args .t) ≡ 0 → ⊥ = λ h. i .if1 .left (i .before .live-count .ensures ∙ h) in
-    c .server-of .ensures ∙ ap serverOf e ∙ rw (ne-eqb (liveCount (s .args .t)) 0 z)
+    c .server-of .ensures ∙ ap serverLed e ∙ led-winner (s .args .own) (entries (s .args .t)) ∙ rw (ne-eqb (liveCount (s .args .t)) 0 z)
 
 pub elect-spec : {M : Type 1} → statement M
 elect-spec =

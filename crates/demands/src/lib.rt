@@ -1,0 +1,1 @@
+// The demands on one page each, with the theorems that prove them. No code: see specs/.

@@ -11,6 +11,7 @@ use Rattle.frame_sets.specs.Kinds.{sakIn}
 use Rattle.frame_places.specs.declared.Spot.{Spot}
 use Rattle.frame_sets.specs.declared.kinds.SakHeader.{SakHeader}
 use Rattle.table_expiry.specs.Kept.{Kept}
+use Rattle.table_expiry.proofs.Rules.{kept-rules}
 use Rattle.table_lookup.specs.Look.{heldIn, liveFor}
 use Rattle.table_election.specs.declared.Server.{Server}
 use Rattle.table_election.specs.declared.Server.the-variants.{Nobody, Ourselves, Elected}
@@ -154,7 +155,7 @@ keyed-server q key = refl
 
 server-live : (p : Participant) (m : Mi) → Kept (p .mi) (p .clock) (p .table) → serverOf p ≡ Elected m → liveFor (heldIn m (p .table)) ≡ true
 unfolding serverOf
-server-live p m k e = elected-live (ownRank p) (p .table) m (k .apart) e
+server-live p m k e = elected-live (ownRank p) (p .table) m (kept-rules k .apart) e
 
 module _ (k : Creation) (ok : created k .answer ≡ Done) where
   ours-now : (cs : List Call) (time : ℕ) (w : List ℕ) → accepted k cs (distributes time w) ≡ true → CameFrom k (distributes time w ∷ cs) (freshKey (agedTo (after k cs) time))

@@ -11,6 +11,7 @@ use Rattle.table_expiry.specs.Expiry.{expired}
 use Rattle.table.specs.declared.Peer.{Peer}
 use Rattle.table.specs.declared.Table.{Table}
 use Rattle.law_lists.specs.Laws.{first-of, second-of}
+use Rattle.table_expiry.proofs.Rules.{kept-rules}
 use Rattle.table_expiry.proofs.Aging.{at-most-16, count-tidy}
 use Rattle.law_kept.specs.Apart.{absent-clash}
 use Rattle.law_kept.specs.Keeping.{kept-empty, kept-expired, kept-entered}
@@ -73,8 +74,8 @@ module _ (k : Creation) (ok : created k .answer ≡ Done) (cs : List Call) where
 
   pub never-twice : (a b c : List Peer) (x y : Peer) → entries table ≡ a ++ (x ∷ (b ++ (y ∷ c))) → x .mi ≡ y .mi → ⊥
   never-twice a b c x y e s =
-      let d : distinct (a ++ (x ∷ (b ++ (y ∷ c)))) ≡ true = ap distinct (sym e) ∙ keeps k cs .apart in
+      let d : distinct (a ++ (x ∷ (b ++ (y ∷ c)))) ≡ true = ap distinct (sym e) ∙ kept-rules (keeps k cs) .apart in
       absent-clash (x .mi) (b ++ (y ∷ c)) y (past a (b ++ (y ∷ c)) x d) (Memᴰ·append-right b (List·Memᴰ·head refl)) s
 
   pub never-ourselves : (x : Peer) → List·Memᴰ x (entries table) → x .mi ≡ identifier k cs → ⊥
-  never-ourselves x m e = absent-clash (after k cs .mi) (entries table) x (keeps k cs .others) m (own k ok cs ∙ sym e)
+  never-ourselves x m e = absent-clash (after k cs .mi) (entries table) x (kept-rules (keeps k cs) .others) m (own k ok cs ∙ sym e)

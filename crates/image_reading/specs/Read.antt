@@ -27,7 +27,7 @@ numbersGood s = eqb (recordsAt s 0) 1 && (leb (recordsAt s 1) 16 && leb (records
 abbrev pub keyPlace : List ℕ → ℕ → ℕ
 keyPlace s i = offsetAt s 2 + i * 28
 
--- What the records hold beside the participant's own values.
+-- "flags with no other bits; desired and mark 0 or 1", and zero in the places that a record leaves
 unfoldable pub clean : List ℕ → Bool
 clean s =
     ownClean s (offsetAt s 0)

@@ -10,8 +10,9 @@ use table::Table;
 ghost use mathlib.Core.Path.{_≡_};
 ghost use lib.ListN.{drop};
 ghost use Rattle.table.specs.Table.{entries};
-ghost use Rattle.table_expiry.specs.Kept.{absent, freshProof, ordered};
-ghost use Rattle.image_rules.specs.Rules.{zeros, unsentZero, undistributedZero, unusedZero, ownGood, timesGood, peerGood, peersGood, useGood, numberGood, keyGood, slotGood, keysGood, rules};
+ghost use Rattle.table_expiry.specs.Kept.{absent, freshProof};
+ghost use Rattle.image_rules.specs.Rules.{zeros, unsentZero, undistributedZero, unusedZero, useGood, rules};
+ghost use Rattle.image_rules.specs.Records.{ownGood, proofGood, timesGood, peerGood, peersGood, numberGood, keyGood, slotGood, keysGood};
 
 // Whether all octets from a place on are 0.
 fn zeros_from(s: &[u8], from: usize) -> bool
@@ -87,7 +88,7 @@ fn proof_fresh(clock: u64, q: Peer) -> bool
 }
 
 fn proof_ordered(q: Peer) -> bool
-    ensures { λ r. ⌜ r ≡ ordered q ⌝ }
+    ensures { λ r. ⌜ r ≡ proofGood q ⌝ }
 {
     if q.proven {
         return q.proof <= q.accepted;

@@ -8,6 +8,7 @@ use lib.Dec.{eqb}
 use borrow.Author.Tests.{eqb-false}
 use Rattle.base_mi.specs.declared.Mi.{Mi}
 use Rattle.table_expiry.specs.Kept.{Kept}
+use Rattle.table_expiry.proofs.Rules.{kept-rules}
 use Rattle.table_lookup.specs.Look.{heldIn, liveFor}
 use Rattle.table_election.specs.declared.Server.{Server}
 use Rattle.table_election.specs.declared.Server.the-variants.{Nobody, Ourselves, Elected}
@@ -115,7 +116,7 @@ keyed-server q key = refl
 
 server-live : (p : Participant) (m : Mi) → Kept (p .mi) (p .clock) (p .table) → serverOf p ≡ Elected m → liveFor (heldIn m (p .table)) ≡ true
 unfolding serverOf
-server-live p m k e = elected-live (ownRank p) (p .table) m (k .apart) e
+server-live p m k e = elected-live (ownRank p) (p .table) m (kept-rules k .apart) e
 
 module _ (k : Creation) (ok : created k .answer ≡ Done) where
   ours-now : (cs : List Call) (time : ℕ) (w : List ℕ) → accepted k cs (distributes time w) ≡ true → CameFrom k (distributes time w ∷ cs) (freshKey (agedTo (after k cs) time))

@@ -13,6 +13,7 @@ use Rattle.table_enter.specs.Enter.{entered}
 use Rattle.table.specs.Table.{emptyTable}
 use Rattle.law_lists.specs.Laws.{by-cases}
 use Rattle.law_kept.specs.Same.{same-eq}
+use Rattle.table_expiry.proofs.Rules.{kept-rules}
 use Rattle.table_expiry.proofs.Aging.{whole-tidy, fresh-now, tidy-expired}
 use Rattle.law_kept.specs.Proving.{live-proved, proof-later, proved-expired, proved-own, proved-other}
 use Rattle.participant.specs.Call.{agedTo}
@@ -60,7 +61,7 @@ empty-proved m = refl
 
 module _ (p : Participant) (m : Mi) (x : Option ℕ) (k : Keeps p) (e : Holds p m x) where
   holds-aged : (time : ℕ) → p .clock ≤ time → provedAt (heldIn m (expired time (p .table))) ≡ agedProof time x
-  holds-aged time h = proved-expired m time (p .table) (k .apart) (k .order) ∙ ap (agedProof time) e ∙ proof-later (p .clock) time x h
+  holds-aged time h = proved-expired m time (p .table) (kept-rules k .apart) (kept-rules k .order) ∙ ap (agedProof time) e ∙ proof-later (p .clock) time x h
 
   holds-received : (time : ℕ) (verdict : Bool) (frame : List ℕ) → NoneHolds (facts p (receives time verdict frame))
       → provedAt (heldIn m (entered (heardOf (basicIn frame)) (proves p frame) time (expired time (p .table)))) ≡ agedProof time (cond (provesOf p m frame) (some time) x)

@@ -8,6 +8,7 @@ use Rattle.table.specs.Table.{entries}
 use Rattle.table_expiry.specs.Expiry.{expired}
 use Rattle.table.specs.declared.Peer.{Peer}
 use Rattle.law_lists.specs.Laws.{first-of, second-of}
+use Rattle.table_expiry.proofs.Rules.{kept-rules}
 use Rattle.table_expiry.proofs.Aging.{at-most-16, count-tidy}
 use Rattle.law_kept.specs.Apart.{absent-clash}
 use Rattle.law_kept.specs.Keeping.{kept-empty, kept-expired, kept-entered}
@@ -67,8 +68,8 @@ never-over-16 k ok cs = (count-tidy (after k cs .table) (keeps k cs .tidy), at-m
 
 pub never-twice : NeverTwice
 never-twice k ok cs a b c x y e s =
-    let d : distinct (a ++ (x ∷ (b ++ (y ∷ c)))) ≡ true = ap distinct (sym e) ∙ keeps k cs .apart in
+    let d : distinct (a ++ (x ∷ (b ++ (y ∷ c)))) ≡ true = ap distinct (sym e) ∙ kept-rules (keeps k cs) .apart in
     absent-clash (x .mi) (b ++ (y ∷ c)) y (past a (b ++ (y ∷ c)) x d) (Memᴰ·append-right b (List·Memᴰ·head refl)) s
 
 pub never-ourselves : NeverOurselves
-never-ourselves k ok cs x m e = absent-clash (after k cs .mi) (peersAfter k cs) x (keeps k cs .others) m (own k ok cs ∙ sym e)
+never-ourselves k ok cs x m e = absent-clash (after k cs .mi) (peersAfter k cs) x (kept-rules (keeps k cs) .others) m (own k ok cs ∙ sym e)

@@ -1,7 +1,7 @@
 -- What expiry and entering keep of the entries, and what expiry brings about.
 use Prim.Native.Nat.{ℕ, _≤_}
 use mathlib.Core.Path.{_≡_, refl, ap, sym, _∙_}
-use mathlib.Core.Bool.{Bool, true, false, cond, not, _&&_}
+use mathlib.Core.Bool.{Bool, true, false, not, _&&_}
 use mathlib.Core.List.{List, [], _∷_}
 use native.Mathlib.Omega.{arith}
 use lib.Dec.{leb, eqb}
@@ -17,9 +17,10 @@ use Rattle.table.specs.Table.{blankPeer, entries, emptyTable}
 use Rattle.table_expiry.specs.Expiry.{freshAt, freshPeer, lapsed, unproven, agedPeer, agedList, steadyIn, expired}
 use Rattle.table_lookup.specs.Look.{heldIn, staleFor, noRoomFor}
 use Rattle.table_enter.specs.Enter.{updated, enterList, entered}
-use Rattle.table_expiry.specs.Kept.{absent, distinct, numbered, timely, freshProof, ordered, Kept}
+use Rattle.table_expiry.specs.Kept.{unprovenZero, timely, freshProof, ordered, absent, distinct, numbered, peerRules, Kept}
 use Rattle.law_lists.specs.Laws.{by-cases, clash, both, first-of, second-of}
 use Rattle.law_kept.specs.Same.{same-eq, same-sym}
+use Rattle.table_expiry.proofs.Rules.{together, kept-rules}
 use Rattle.table_expiry.proofs.Aging.{whole-tidy, fresh-now, aged-same, entries-expired, tidy-expired, expired-steady}
 use Rattle.law_kept.specs.Entering.{entries-entered, tidy-entered}
 
@@ -77,9 +78,17 @@ pub numbered-aged : (time : ℕ) (l : List Peer) → every numbered l ≡ true �
 numbered-aged time l e = every-kept numbered time (λ p. refl) l e
 
 pub timely-aged : (clock time : ℕ) (l : List Peer) → clock ≤ time → every (timely clock) l ≡ true → every (timely time) (agedList time l) ≡ true
-timely-aged clock time l h e =
-    every-aged (timely clock) (timely time) time
-    (λ p a t. aged-same (timely time) time p refl ∙ le-leb (p .accepted) time (omega (arith, leb-true (p .accepted) clock t))) l e
+timely-aged clock time l h e = every-aged (timely clock) (timely time) time (λ p a t. one p t) l e
+  where
+    later : (n : ℕ) → leb n clock ≡ true → leb n time ≡ true
+    later n t = le-leb n time (omega (arith, leb-true n clock t))
+
+    one : (p : Peer) → timely clock p ≡ true → timely time (agedPeer time p) ≡ true
+    one p t =
+        let a = later (p .accepted) (first-of (leb (p .accepted) clock) (leb (p .proof) clock) t) in
+        by-cases (lapsed time p)
+        (λ b. rw b (both _ _ a (le-leb 0 time (omega arith))))
+        (λ b. rw b (both _ _ a (later (p .proof) (second-of (leb (p .accepted) clock) (leb (p .proof) clock) t))))
 
 every-true : (l : List Peer) → every (λ (p : Peer). true) l ≡ true
 every-true [] = refl
@@ -98,6 +107,9 @@ freshProof-aged time l = every-aged (λ (p : Peer). true) (freshProof time) time
         by-cases (p .proven)
         (λ a. by-cases (freshAt time (p .proof)) (λ b. rw (a, b) b) (λ b. rw (a, b)))
         (λ a. rw a)
+
+pub unproven-aged : (time : ℕ) (l : List Peer) → every unprovenZero l ≡ true → every unprovenZero (agedList time l) ≡ true
+unproven-aged time l e = every-aged unprovenZero unprovenZero time (λ p a t. by-cases (lapsed time p) (λ b. rw b) (λ b. rw b t)) l e
 
 pub ordered-aged : (time : ℕ) (l : List Peer) → every ordered l ≡ true → every ordered (agedList time l) ≡ true
 ordered-aged time l e = every-aged ordered ordered time (λ p a t. by-cases (lapsed time p) (λ b. rw b) (λ b. rw b t)) l e
@@ -126,8 +138,14 @@ module _ (h : Heard) (proves : Bool) (time : ℕ) where
 
   pub timely-entered : (l : List Peer) → every (timely time) l ≡ true → every (timely time) (enterList h proves time l) ≡ true
   unfolding updated
-  timely-entered l e =
-      let now = le-leb time time (omega arith) in every-entered h proves time (timely time) (timely time) (λ p t. t) now (λ p t. now) l e
+  timely-entered l e = every-entered h proves time (timely time) (timely time) (λ p t. t) (one blankPeer (le-leb 0 time (omega arith))) known l e
+    where
+      one : (p : Peer) → leb (p .proof) time ≡ true → timely time (updated p h proves time) ≡ true
+      one p t =
+          let now = le-leb time time (omega arith) in by-cases proves (λ b. rw b (both _ _ now now)) (λ b. rw b (both _ _ now t))
+
+      known : (p : Peer) → timely time p ≡ true → timely time (updated p h proves time) ≡ true
+      known p t = one p (second-of (leb (p .accepted) time) (leb (p .proof) time) t)
 
   pub fresh-entered : (l : List Peer) → every (freshPeer time) l ≡ true → every (freshPeer time) (enterList h proves time l) ≡ true
   unfolding updated
@@ -141,29 +159,28 @@ module _ (h : Heard) (proves : Bool) (time : ℕ) where
       one : (p : Peer) → freshProof time p ≡ true → freshProof time (updated p h proves time) ≡ true
       one p t = by-cases proves (λ b. rw b (fresh-now time)) (λ b. rw b t)
 
+  pub unproven-entered : (l : List Peer) → every unprovenZero l ≡ true → every unprovenZero (enterList h proves time l) ≡ true
+  unfolding updated
+  unproven-entered l e = every-entered h proves time unprovenZero unprovenZero (λ p t. t) (one blankPeer refl) one l e
+    where
+      one : (p : Peer) → unprovenZero p ≡ true → unprovenZero (updated p h proves time) ≡ true
+      one p t = by-cases proves (λ b. rw b) (λ b. rw b t)
+
   pub ordered-entered : (l : List Peer) → every (timely time) l ≡ true → every ordered l ≡ true → every ordered (enterList h proves time l) ≡ true
   unfolding updated
   ordered-entered l u e =
       every-entered h proves time (λ (p : Peer). timely time p && ordered p) ordered
       (λ p t. second-of (timely time p) (ordered p) t)
-      (by-cases proves (λ b. rw b (le-leb time time (omega arith))) (λ b. rw b))
-      one
+      (one blankPeer (le-leb 0 time (omega arith)))
+      (λ p t. one p (second-of (leb (p .accepted) time) (leb (p .proof) time) (first-of (timely time p) (ordered p) t)))
       l
       (every-both (timely time) ordered l u e)
     where
-      later : (p : Peer) → timely time p ≡ true → ordered p ≡ true → cond (p .proven) (leb (p .proof) time) (eqb (p .proof) 0) ≡ true
-      later p a b =
-          by-cases (p .proven)
-          (λ s.
-          let k : leb (p .proof) (p .accepted) ≡ true = rw s at b in
-          rw s (le-leb (p .proof) time (omega (arith, leb-true (p .proof) (p .accepted) k, leb-true (p .accepted) time a))))
-          (λ s. rw s (rw s at b))
-
-      one : (p : Peer) → (timely time p && ordered p) ≡ true → ordered (updated p h proves time) ≡ true
+      one : (p : Peer) → leb (p .proof) time ≡ true → ordered (updated p h proves time) ≡ true
       one p t =
           by-cases proves
           (λ b. rw b (le-leb time time (omega arith)))
-          (λ b. rw b (later p (first-of (timely time p) (ordered p) t) (second-of (timely time p) (ordered p) t)))
+          (λ b. rw b (by-cases (p .proven) (λ s. rw s t) (λ s. rw s)))
 
 -- a frame that fact 11 lets through has a number
 pub not-stale : (held : Held) (mn : ℕ) → staleFor held mn ≡ false → eqb mn 0 ≡ false
@@ -172,28 +189,32 @@ not-stale held mn e = by-cases (eqb mn 0) (λ z. clash (sym e ∙ rw z)) (λ z. 
 -- ---- all of it, of a table
 
 pub kept-empty : (own : Mi) (clock : ℕ) → Kept own clock emptyTable
-unfolding emptyTable
-kept-empty own clock =
-    record { tidy = refl; apart = refl; others = refl; numbers = refl; times = refl; ages = refl; proofs = refl; order = refl }
+unfolding emptyTable peerRules
+kept-empty own clock = record { tidy = refl; rules = refl }
 
 pub kept-expired : (own : Mi) (clock time : ℕ) (t : Table) → clock ≤ time → Kept own clock t → Kept own time (expired time t)
 kept-expired own clock time t h k =
     let l = entries t in
-    let e = entries-expired time t in
+    let r = kept-rules k in
     record {
       tidy = tidy-expired time t (k .tidy);
-      apart = rw e (distinct-aged time l (k .apart));
-      others = rw e (absent-aged own time l (k .others));
-      numbers = rw e (numbered-aged time l (k .numbers));
-      times = rw e (timely-aged clock time l h (k .times));
-      ages = rw e (fresh-aged time l);
-      proofs = rw e (freshProof-aged time l);
-      order = rw e (ordered-aged time l (k .order));
+      rules = rw (entries-expired time t)
+          (together own time (agedList time l)
+          (record {
+            zeros = unproven-aged time l (r .zeros);
+            times = timely-aged clock time l h (r .times);
+            ages = fresh-aged time l;
+            proofs = freshProof-aged time l;
+            order = ordered-aged time l (r .order);
+            apart = distinct-aged time l (r .apart);
+            others = absent-aged own time l (r .others);
+            numbers = numbered-aged time l (r .numbers);
+          }));
     }
 
 -- at its clock nothing of it is left to expire
 pub kept-still : (own : Mi) (clock : ℕ) (t : Table) → Kept own clock t → expired clock t ≡ t
-kept-still own clock t k = expired-steady clock t (steady (entries t) (k .ages) (k .proofs))
+kept-still own clock t k = let r = kept-rules k in expired-steady clock t (steady (entries t) (r .ages) (r .proofs))
   where
     one : (p : Peer) → freshProof clock p ≡ true → lapsed clock p ≡ false
     one p e = by-cases (p .proven) (λ a. let f = rw a at e in rw (a, f)) (λ a. rw a)
@@ -210,14 +231,19 @@ pub kept-entered : (own : Mi) (h : Heard) (proves : Bool) (time : ℕ) (t : Tabl
     → Kept own time t → Kept own time (entered h proves time t)
 kept-entered own h proves time t other new room-left k =
     let l = entries t in
-    let e = entries-entered h proves time t room-left (whole-tidy t (k .tidy)) in
+    let r = kept-rules k in
     record {
       tidy = tidy-entered h proves time t (k .tidy);
-      apart = rw e (distinct-entered h proves time l (k .apart));
-      others = rw e (absent-entered h proves time own l other (k .others));
-      numbers = rw e (numbered-entered h proves time l (not-stale (heldIn (h .mi) t) (h .mn) new) (k .numbers));
-      times = rw e (timely-entered h proves time l (k .times));
-      ages = rw e (fresh-entered h proves time l (k .ages));
-      proofs = rw e (freshProof-entered h proves time l (k .proofs));
-      order = rw e (ordered-entered h proves time l (k .times) (k .order));
+      rules = rw (entries-entered h proves time t room-left (whole-tidy t (k .tidy)))
+          (together own time (enterList h proves time l)
+          (record {
+            zeros = unproven-entered h proves time l (r .zeros);
+            times = timely-entered h proves time l (r .times);
+            ages = fresh-entered h proves time l (r .ages);
+            proofs = freshProof-entered h proves time l (r .proofs);
+            order = ordered-entered h proves time l (r .times) (r .order);
+            apart = distinct-entered h proves time l (r .apart);
+            others = absent-entered h proves time own l other (r .others);
+            numbers = numbered-entered h proves time l (not-stale (heldIn (h .mi) t) (h .mn) new) (r .numbers);
+          }));
     }

@@ -31,7 +31,9 @@ use Rattle.call_judge.specs.Judge.{basicIn}
 use Rattle.call_hearing.specs.Keys.{isKnown, keyFrom, keyedOf}
 use Rattle.call_receive.specs.Receive.{admitted, updatedBy, acceptedBy}
 use Rattle.call_send.specs.Send.{sentAt}
-use Rattle.image_rules.specs.Rules.{only, useGood, keyGood, slotGood, keysGood}
+use Rattle.table_expiry.specs.Kept.{only}
+use Rattle.image_rules.specs.Rules.{useGood}
+use Rattle.image_rules.specs.Records.{keyGood, slotGood, keysGood}
 use Rattle.law_reread.specs.Fit.{FitKey}
 use Rattle.law_saved.specs.WellFormed.{TidySlot}
 use Rattle.law_history.specs.Calls.{Creation, created, Call, receives, sends, distributes, ticks, renews, reports, asks, saves, after}

@@ -26,7 +26,8 @@ use Rattle.law_calls.specs.Passed.{send-passed, distribute-passed}
 use Rattle.law_calls.specs.Never.{risen}
 use Rattle.call_receive.specs.Receive.{admitted, updatedBy}
 use Rattle.call_send.specs.Send.{sentAt}
-use Rattle.image_rules.specs.Rules.{zeros, unsentZero, undistributedZero, unusedZero, ownGood}
+use Rattle.image_rules.specs.Rules.{zeros, unsentZero, undistributedZero, unusedZero}
+use Rattle.image_rules.specs.Records.{ownGood}
 use Rattle.law_reread.specs.Fit.{FitOwn}
 use Rattle.law_history.specs.Calls.{Creation, created, Call, receives, sends, distributes, ticks, renews, reports, asks, saves, after}
 use Rattle.law_history.specs.Steps.{facts, becomes}

@@ -1,13 +1,14 @@
 -- Why: every rule of an image is kept by every accepted call, of the own record, the table, its peers and the keys.
-use mathlib.Core.Path.{_≡_}
+use mathlib.Core.Path.{_≡_, _∙_}
 use mathlib.Core.Bool.{true}
 use mathlib.Core.List.{List, []}
 use Rattle.law_lists.specs.Laws.{both}
+use Rattle.table.specs.Table.{entries}
 use Rattle.participant.specs.declared.Participant.{Participant}
 use Rattle.participant.specs.declared.call.Answer.the-variants.{Done}
 use Rattle.participant.proofs.Settle.{NoneHolds}
 use Rattle.image_rules.specs.Rules.{rules}
-use Rattle.image_rules.proofs.Laws.{kept-good}
+use Rattle.image_rules.proofs.Laws.{peers-by-rule, by-record}
 use Rattle.law_saved.specs.WellFormed.{WellFormed}
 use Rattle.law_history.specs.Calls.{Creation, created, Call, after}
 use Rattle.law_history.specs.Steps.{facts, becomes}
@@ -40,9 +41,9 @@ becomes-parts p c h v s =
     }
 
 rules-hold : (p : Participant) → Parts p → rules p ≡ true
-unfolding rules
 rules-hold p s =
-    both _ _ (own-good p (s .own)) (both _ _ (kept-good (p .mi) (p .clock) (p .table) (s .table) (s .peers .capabilities)) (keys-good p (s .keys)))
+    let peers = peers-by-rule (p .mi) (p .clock) (entries (p .table)) ∙ both _ _ (s .peers .capabilities) (s .table .rules) in
+    by-record p ∙ both _ _ (own-good p (s .own)) (both _ _ peers (keys-good p (s .keys)))
 
 pub well-formed : (p : Participant) → Parts p → WellFormed p
 well-formed p s =

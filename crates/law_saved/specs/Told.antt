@@ -2,36 +2,34 @@
 use Prim.Native.Nat.{ℕ, _+_, _*_, _^_, _<_, _≤_, min}
 use mathlib.Core.Path.{_≡_, refl, ap, ap₂, sym, _∙_}
 use mathlib.Core.List.{List, [], _∷_, _++_}
-use mathlib.Core.Bool.{Bool, true, false, not, cond, _&&_, _||_}
+use mathlib.Core.Bool.{Bool, true, false, not, _||_}
 use native.Mathlib.Omega.{arith}
 use lib.ListN.{length, length-append, length-take}
 use lib.Dec.{ltb, eqb}
-use borrow.Author.Tests.{ltb-true, ltb-false, lt-ltb, le-ltb, le-leb, eq-eqb, not-true}
+use borrow.Author.Tests.{ltb-false, le-leb, eq-eqb}
 use Rattle.base_octets.proofs.Fields.{Stands, first, second, moved}
 use Rattle.base_packed.specs.Bit.{bit}
 use Rattle.base_packed.proofs.Laws.{bit-lt}
+use Rattle.law_lists.specs.Lists.{every}
 use Rattle.table.specs.Table.{entries, tableOf}
 use Rattle.table.specs.declared.Peer.{Peer}
 use Rattle.law_lists.specs.Laws.{by-cases, both, first-of, second-of, clash}
 use Rattle.participant.specs.Record.{setTable, setLatest, setOld}
 use Rattle.participant.specs.Call.{doneOf}
-use Rattle.call_creation.specs.Create.{badStart}
 use Rattle.participant.specs.declared.Slot.{Slot}
 use Rattle.participant.specs.declared.Participant.{Participant}
-use Rattle.image_layout.specs.Layout.{Part, recordsAt, offsetAt, laidOf, bodies, laidOut}
-use Rattle.image_layout.proofs.Laws.{length-laid}
+use Rattle.image_layout.specs.Layout.{Part, recordsAt, offsetAt, laidOf, laidOut}
 use Rattle.image_layout.proofs.Round.{Matching, Told, ToldFrom, told, laid-round}
 use Rattle.image_own.specs.Own.{ownOctets, ownAt, ownClean}
 use Rattle.image_peer.specs.Peer.{peersOctets, peersAt, peersClean}
-use Rattle.image_key.specs.Key.{keyOctets, slotOctets, keyAt, keyClean, slotAt, slotClean}
-use Rattle.image_key.proofs.Laws.{length-key}
+use Rattle.image_key.specs.Key.{keyOctets, slotOctets, slotAt, slotClean}
 use Rattle.image_own.proofs.Lengths.{length-own}
 use Rattle.law_reread.specs.Fit.{FitKey}
 use Rattle.law_reread.specs.Own.{alone, own-stands}
 use Rattle.law_reread.specs.Peer.{AllTold, peers-stand}
 use Rattle.law_reread.specs.Key.{key-stands}
-use Rattle.image_rules.specs.Rules.{only, ownGood, peersGood, keysGood, rules}
-use Rattle.image_rules.proofs.Laws.{good-rules}
+use Rattle.table_expiry.specs.Kept.{only}
+use Rattle.image_rules.specs.Rules.{inRanges, twoBits, rules}
 use Rattle.law_saved.specs.WellFormed.{TidySlot, WellFormed}
 use Rattle.image.specs.Image.{ownPart, peersPart, keysPart, imageOf}
 use Rattle.image_reading.specs.Read.{sizes, numbersGood, keyPlace, clean, toldBy, wellFormed, readOf}
@@ -116,10 +114,9 @@ not-over false false c d e = refl
 
 -- "the creating ranges"
 pub size-small : (p : Participant) → rules p ≡ true → p .size ≤ 32
-unfolding rules ownGood
+unfolding rules
 size-small p k =
-    let own = first-of (ownGood p) (peersGood (p .mi) (p .clock) (entries (p .table)) && keysGood p) k in
-    let e = first-of (not (badStart (p .size) (p .capability))) _ own in
+    let e = first-of (inRanges p) _ k in
     ltb-false 32 (p .size) (not-over (eqb (p .size) 0) (ltb 32 (p .size)) (eqb (p .capability) 0) (ltb 3 (p .capability)) e)
 
 module _ (p : Participant) (w : WellFormed p) where
@@ -140,9 +137,9 @@ module _ (p : Participant) (w : WellFormed p) where
   unfolding ownPart peersPart
   keys-told = tells p w .1 .1 .0
 
-  peers-good : peersGood (p .mi) (p .clock) peers ≡ true
+  capabilities : every twoBits peers ≡ true
   unfolding rules
-  peers-good = first-of (peersGood (p .mi) (p .clock) peers) (keysGood p) (second-of (ownGood p) (peersGood (p .mi) (p .clock) peers && keysGood p) (w .kept))
+  capabilities = first-of (every twoBits peers) _ (second-of (inRanges p) _ (w .kept))
 
   small : p .size ≤ 32
   small = size-small p (w .kept)
@@ -167,7 +164,7 @@ module _ (p : Participant) (w : WellFormed p) where
 
   peers-all : AllTold image peers (28 + length (ownOctets p))
   unfolding peersPart
-  peers-all = peers-stand image peers (28 + length (ownOctets p)) (w .peers) (good-rules (p .mi) (p .clock) peers peers-good .capabilities) (peers-told .body)
+  peers-all = peers-stand image peers (28 + length (ownOctets p)) (w .peers) capabilities (peers-told .body)
 
   table-same : tableOf (peersAt image (offsetAt image 1) (min (recordsAt image 1) 16)) ≡ p .table
   table-same =

@@ -2,11 +2,11 @@
 use mathlib.Core.Path.{_≡_}
 use mathlib.Core.Bool.{true, cond}
 use Rattle.table.specs.Table.{entries}
-use Rattle.table_expiry.specs.Kept.{Tidy}
+use Rattle.table_expiry.specs.Kept.{only, Tidy}
 use Rattle.participant.specs.Keys.{noSlot, slotOf}
 use Rattle.participant.specs.declared.Slot.{Slot}
 use Rattle.participant.specs.declared.Participant.{Participant}
-use Rattle.image_rules.specs.Rules.{only, rules}
+use Rattle.image_rules.specs.Rules.{rules}
 use Rattle.law_reread.specs.Fit.{FitPeers, FitKey, FitOwn}
 
 -- A slot that holds no key is blank.

@@ -1,7 +1,7 @@
--- What holds of the entries after any calls, in the words of "Port image".
+-- The rules of "Well formed" that go for peers, in its order. An image's peers are held to them, and every table keeps them.
 use Prim.Native.Nat.{ℕ}
 use mathlib.Core.Path.{_≡_}
-use mathlib.Core.Bool.{Bool, true, false, cond, not, _&&_}
+use mathlib.Core.Bool.{Bool, true, cond, not, _&&_}
 use mathlib.Core.List.{List, [], _∷_}
 use lib.Dec.{leb, eqb}
 use Rattle.base_mi.specs.declared.Mi.{Mi}
@@ -12,11 +12,27 @@ use Rattle.law_lists.specs.Lists.{every}
 use Rattle.table.specs.Table.{entries, tableOf}
 use Rattle.table_expiry.specs.Expiry.{freshAt, freshPeer}
 
--- Slots past the count are blank, and the count is at most 16.
-abbrev pub Tidy : Table → Type 0
-Tidy t = t ≡ tableOf (entries t)
+-- Where the one holds, the other does.
+abbrev pub only : Bool → Bool → Bool
+only a b = cond a b true
 
--- "not ours": an MI is none of the entries'.
+-- "no proof means proof time 0"
+abbrev pub unprovenZero : Peer → Bool
+unprovenZero p = only (not (p .proven)) (eqb (p .proof) 0)
+
+-- "times not after the clock"
+abbrev pub timely : ℕ → Peer → Bool
+timely clock p = leb (p .accepted) clock && leb (p .proof) clock
+
+-- "accepted .. under 6,000 ms old" is `freshPeer`; "and proof", where there is one
+abbrev pub freshProof : ℕ → Peer → Bool
+freshProof clock p = only (p .proven) (freshAt clock (p .proof))
+
+-- "proof not after accepted"
+abbrev pub ordered : Peer → Bool
+ordered p = only (p .proven) (leb (p .proof) (p .accepted))
+
+-- An identifier is none of the entries'.
 abbrev pub absent : Mi → List Peer → Bool
 absent m l = every (λ (p : Peer). not (miSame m (p .mi))) l
 
@@ -29,25 +45,23 @@ distinct (p ∷ ps) = absent (p .mi) ps && distinct ps
 abbrev pub numbered : Peer → Bool
 numbered p = not (eqb (p .mn) 0)
 
--- "times not after the clock"
-abbrev pub timely : ℕ → Peer → Bool
-timely clock p = leb (p .accepted) clock
+-- All of them, each over the whole list; "not ours": ours is the MI `own`.
+unfoldable pub peerRules : Mi → ℕ → List Peer → Bool
+peerRules own clock l =
+    every unprovenZero l
+    && (every (timely clock) l
+    && (every (freshPeer clock) l
+    && (every (freshProof clock) l
+    && (every ordered l
+    && (distinct l
+    && (absent own l
+    && every numbered l))))))
 
--- "accepted .. under 6,000 ms old" is `freshPeer`; "and proof"
-abbrev pub freshProof : ℕ → Peer → Bool
-freshProof clock p = cond (p .proven) (freshAt clock (p .proof)) true
+-- Slots past the count are blank, and the count is at most 16.
+abbrev pub Tidy : Table → Type 0
+Tidy t = t ≡ tableOf (entries t)
 
--- "proof not after accepted", "no proof means proof time 0"
-abbrev pub ordered : Peer → Bool
-ordered p = cond (p .proven) (leb (p .proof) (p .accepted)) (eqb (p .proof) 0)
-
--- All of it, of a table: ours is the MI `own`. That its entries are at most 16 is so of every table.
+-- What every table keeps. That its entries are at most 16 is so of any table.
 pub record Kept (own : Mi) (clock : ℕ) (t : Table) : Type 0 where
   pub tidy : Tidy t
-  pub apart : distinct (entries t) ≡ true
-  pub others : absent own (entries t) ≡ true
-  pub numbers : every numbered (entries t) ≡ true
-  pub times : every (timely clock) (entries t) ≡ true
-  pub ages : every (freshPeer clock) (entries t) ≡ true
-  pub proofs : every (freshProof clock) (entries t) ≡ true
-  pub order : every ordered (entries t) ≡ true
+  pub rules : peerRules own clock (entries t) ≡ true

@@ -8,7 +8,7 @@ ghost use Rattle.table.specs.Table.{entries};
 ghost use Rattle.table_expiry.specs.Expiry.{freshAt, lapsed, agedPeer, stillPeer, steadyIn, rebuilt, expired, oldestAt, stillFrom};
 
 // The life time in milliseconds.
-pub const LIFE: u64 = 6000;
+const LIFE: u64 = 6000;
 
 // Whether what happened at `at` is less than a life time old at `time`.
 pub fn fresh(time: u64, at: u64) -> bool

@@ -2,7 +2,7 @@ use mathlib.Core.Path.{sym, _∙_}
 use native.Mathlib.Omega.{arith}
 use borrow.Author.Tests.{lt-ltb, le-ltb, not-true, not-false}
 use borrow.Author.Needs.{needs}
-use Rattle.image_rules.specs.Rules.{keyGood}
+use Rattle.image_rules.specs.Records.{keyGood}
 use Rattle.image_rules.proofs.key_good.Statement.{statement}
 use Rattle.image_rules.proofs.key_good.Tie as tie
 

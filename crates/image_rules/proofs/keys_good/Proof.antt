@@ -1,7 +1,7 @@
 use mathlib.Core.Path.{sym, _∙_}
 use borrow.Author.Tests.{not-true, not-false}
 use borrow.Author.Needs.{needs}
-use Rattle.image_rules.specs.Rules.{keysGood}
+use Rattle.image_rules.specs.Records.{keysGood}
 use Rattle.image_rules.proofs.keys_good.Statement.{statement}
 use Rattle.image_rules.proofs.keys_good.Tie as tie
 

@@ -2,7 +2,7 @@ use mathlib.Core.Path.{sym, _∙_}
 use native.Mathlib.Omega.{arith}
 use borrow.Author.Tests.{le-leb, lt-leb, not-true, not-false}
 use borrow.Author.Needs.{needs}
-use Rattle.image_rules.specs.Rules.{ownGood}
+use Rattle.image_rules.specs.Records.{ownGood}
 use Rattle.image_rules.proofs.own_good.Statement.{statement}
 use Rattle.image_rules.proofs.own_good.Tie as tie
 

@@ -2,7 +2,7 @@ use mathlib.Core.Path.{sym, _∙_}
 use native.Mathlib.Omega.{arith}
 use borrow.Author.Tests.{lt-ltb, le-ltb, eq-eqb, ne-eqb, not-true, not-false}
 use borrow.Author.Needs.{needs}
-use Rattle.image_rules.specs.Rules.{peerGood}
+use Rattle.image_rules.specs.Records.{peerGood}
 use Rattle.image_rules.proofs.peer_good.Statement.{statement}
 use Rattle.image_rules.proofs.peer_good.Tie as tie
 

@@ -7,7 +7,7 @@ use borrow.Author.Tests.{not-true, not-false}
 use borrow.Author.Needs.{needs}
 use Rattle.table.specs.Table.{room, blankPeer, entries}
 use Rattle.law_lists.specs.Laws.{loop-next, drop-end}
-use Rattle.image_rules.specs.Rules.{peersGood}
+use Rattle.image_rules.specs.Records.{peersGood}
 use Rattle.image_rules.proofs.peers_good.Statement.{statement}
 use Rattle.image_rules.proofs.peers_good.Tie as tie
 

@@ -1,5 +1,5 @@
 use borrow.Author.Needs.{needs}
-use Rattle.image_rules.specs.Rules.{slotGood}
+use Rattle.image_rules.specs.Records.{slotGood}
 use Rattle.image_rules.proofs.slot_good.Statement.{statement}
 use Rattle.image_rules.proofs.slot_good.Tie as tie
 

@@ -2,7 +2,7 @@ use mathlib.Core.Path.{sym, _∙_}
 use native.Mathlib.Omega.{arith}
 use borrow.Author.Tests.{le-leb, lt-leb, not-true, not-false}
 use borrow.Author.Needs.{needs}
-use Rattle.image_rules.specs.Rules.{timesGood}
+use Rattle.image_rules.specs.Records.{timesGood}
 use Rattle.image_rules.proofs.times_good.Statement.{statement}
 use Rattle.image_rules.proofs.times_good.Tie as tie
 

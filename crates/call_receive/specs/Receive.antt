@@ -49,10 +49,13 @@ admitted q held b proves =
 abbrev pub heldAt : Participant → ℕ → Basic → Held
 heldAt p time b = heldIn (b .mi) (agedTo p time .table)
 
--- 10: "the sender's MI is ours"; 11: "MN 0, or not above the MN held for that MI"; 12: "MI new and 16 peers held"
+-- 11: "MN 0, or not above the MN held for that MI"; 12: "MI new and 16 peers held"
+abbrev pub heldFacts : Participant → ℕ → Basic → List (ℕ × Bool)
+heldFacts p time b = (11, staleFor (heldAt p time b) (b .mn)) ∷ (12, noRoomFor (heldAt p time b) (agedTo p time .table)) ∷ []
+
+-- 10: "the sender's MI is ours"; 11; 12
 unfoldable pub tableFacts : Participant → ℕ → Basic → List (ℕ × Bool)
-tableFacts p time b =
-    (10, miSame (p .mi) (b .mi)) ∷ (11, staleFor (heldAt p time b) (b .mn)) ∷ (12, noRoomFor (heldAt p time b) (agedTo p time .table)) ∷ []
+tableFacts p time b = (10, miSame (p .mi) (b .mi)) ∷ heldFacts p time b
 
 unfoldable pub receiveFacts : Participant → ℕ → Bool → List ℕ → List (ℕ × Bool)
 receiveFacts p time verdict s = frameFacts p time verdict s ++ tableFacts p time (basicIn s)
@@ -73,7 +76,7 @@ acceptedBy p time s b w = keyedOf (updatedBy p time s b w) s (b .mi) (w .sak)
 -- facts 11 and 12, and what the frame makes of the participant where none holds
 unfoldable pub settledBy : Participant → ℕ → List ℕ → Basic → Places → Received
 settledBy p time s b w =
-    let n = firstOf ((11, staleFor (heldAt p time b) (b .mn)) ∷ (12, noRoomFor (heldAt p time b) (agedTo p time .table)) ∷ []) in
+    let n = firstOf (heldFacts p time b) in
     cond (eqb n 0) (acceptedOf (acceptedBy p time s b w)) (refusedOf p n)
 
 unfoldable pub receivedOf : Participant → ℕ → Bool → List ℕ → Received

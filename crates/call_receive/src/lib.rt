@@ -120,8 +120,7 @@ pub fn receive(p: Participant, time: u64, verdict: bool, frame: &[u8]) -> Receiv
         return refused(p, 10);
     };
     let mut t = p.table;
-    let count = t.count;
-    let n = base_facts::at_most(count, ROOM);
+    let n = base_facts::at_most(t.count, ROOM);
     let from = table_expiry::oldest(time);
     let mut at = n;
     let mut i: usize = 0;
@@ -145,9 +144,9 @@ pub fn receive(p: Participant, time: u64, verdict: bool, frame: &[u8]) -> Receiv
         return refused(p, 12);
     };
     let proves = proof::proves(frame, w, own, p.mn);
-    let to = table_enter::place(held, count);
+    let to = table_enter::place(held, n);
     t.peers[to] = table_enter::anew(held, heard_of(b), proves, time);
-    t.count = table_enter::grown(held, count);
+    t.count = table_enter::grown(held, n);
     let mark = base_facts::either(p.mark, table_lookup::becomes_live(held, proves));
     let q = with_table(p, t, time, mark);
     let sak = w.sak;

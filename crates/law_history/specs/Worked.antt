@@ -17,7 +17,7 @@ use Rattle.frame_sets.specs.Kinds.{sakAt, sakIn}
 use Rattle.frame_sets.specs.Set.{lenAt, listLen, badBody, badShape, badHead, badSet, extentOf}
 use Rattle.frame_walk.specs.List.{entriesFrom, listAt, entriesIn}
 use Rattle.frame_walk.specs.Walk.{walkGo, walkFrom, walkOf}
-use Rattle.table_expiry.specs.Expiry.{rebuilt, expired}
+use Rattle.table_expiry.specs.Expiry.{expired}
 use Rattle.table_lookup.specs.Look.{heldIn, liveFor, potentialFor}
 use Rattle.table_enter.specs.Enter.{updated, replaced, enteredAt}
 use Rattle.table.specs.Table.{emptyTable, pushed}
@@ -158,7 +158,7 @@ TakenAgain =
 
 pub worked : BothSides × OurKey × TheirKey × TakenAgain
 unfolding created createdOf fresh emptyParticipant noSlot emptyTable beAt beOf written miOctets basicFields miAt liveList potentialList liveCount elected
-    headerOctets fixedOctets cknOctets basicOctets listSet listOctets bodyOctets frameOf serverOf electedSelf agedTo expired rebuilt ofMember keyUseOf
+    headerOctets fixedOctets cknOctets basicOctets listSet listOctets bodyOctets frameOf serverOf electedSelf agedTo expired ofMember keyUseOf
     serverFlag handsOut senderOf sakOf messageOf frameAt sendFacts sentAt sentOf leftBy sameAt fact6 holds placesWith lenAt listLen badBody badShape
     badHead badSet extentOf entryAt entriesFrom listAt entriesIn walkGo walkFrom walkOf heldIn updated replaced enteredAt pushed frameFacts keyedOf
     isRecent namedIn provesIn heardOf admitted tableFacts receiveFacts updatedBy acceptedBy receivedOf ticked

@@ -15,17 +15,18 @@ use Rattle.table_lookup.specs.declared.Held.{Held}
 use Rattle.table_lookup.specs.declared.Held.the-variants.{At, Missing}
 use Rattle.table_enter.specs.declared.Heard.{Heard}
 use Rattle.table.specs.Table.{room, blankPeer, pushed}
-use Rattle.table_expiry.specs.Expiry.{freshAt, stillPeer, steadyIn, oldestAt, stillFrom}
+use Rattle.table_expiry.specs.Expiry.{lifeTime, freshAt, stillPeer, steadyIn, oldestAt, stillFrom}
 use Rattle.table_lookup.specs.Look.{seek, firstAt, foundAt, noRoomFor}
 use Rattle.table_enter.specs.Enter.{heldPeer, updated, replaced, enteredAt, placeFor, grownBy}
+use Rattle.table_expiry.proofs.Aging.{counted}
 use Rattle.law_lists.specs.Laws.{by-cases, loop-next, drop-end}
 
 -- less than a life time old is not from before the oldest such time
 pub fresh-from : (time at : ℕ) → leb (oldestAt time) at ≡ freshAt time at
 fresh-from time at =
-    by-cases (leb (time - 5999) at)
-    (λ e. rw (e, lt-ltb (time - at) 6000 (omega (arith, leb-true (time - 5999) at e))))
-    (λ e. rw (e, le-ltb (time - at) 6000 (omega (arith, leb-false (time - 5999) at e))))
+    by-cases (leb (oldestAt time) at)
+    (λ e. rw (e, lt-ltb (time - at) lifeTime (omega (arith, leb-true (oldestAt time) at e))))
+    (λ e. rw (e, le-ltb (time - at) lifeTime (omega (arith, leb-false (oldestAt time) at e))))
 
 pub still-from : (time : ℕ) (p : Peer) → stillFrom (oldestAt time) p ≡ stillPeer time p
 still-from time p =
@@ -81,8 +82,16 @@ in-place (At i p) h proves time t e = refl
 in-place Missing h proves time t e = rw (lt-ltb (t .count) 16 (leb-false 16 (t .count) e))
 
 -- and that place is one of the 16
-pub place-fits : (at n : ℕ) (p : Peer) (t : Table) → at ≤ n → n ≤ 16 → noRoomFor (foundAt at n p) t ≡ false → placeFor (foundAt at n p) (t .count) < 16
+pub place-fits : (at n : ℕ) (p : Peer) (t : Table) → at ≤ n → n ≡ min (t .count) 16 → noRoomFor (foundAt at n p) t ≡ false → placeFor (foundAt at n p) n < 16
 place-fits at n p t le few e =
     by-cases (eqb at n)
-    (λ a. rw a (leb-false 16 (t .count) (rw a at e)))
+    (λ a. let c = leb-false 16 (t .count) (rw a at e) in rw a (omega (arith, c)))
     (λ a. let ne = eqb-false at n a in rw a (omega (arith, ne)))
+
+-- a count above 16 is full as 16 is
+pub no-room-counted : (held : Held) (t : Table) → noRoomFor held (counted t) ≡ noRoomFor held t
+no-room-counted (At i p) t = refl
+no-room-counted Missing t =
+    by-cases (leb 16 (t .count))
+    (λ e. rw (e, le-leb 16 (min (t .count) 16) (omega (arith, leb-true 16 (t .count) e))))
+    (λ e. rw (e, lt-leb 16 (min (t .count) 16) (omega (arith, leb-false 16 (t .count) e))))

@@ -21,7 +21,7 @@ use Rattle.table_expiry.specs.Kept.{unprovenZero, timely, freshProof, ordered, 
 use Rattle.law_lists.specs.Laws.{by-cases, clash, both, first-of, second-of}
 use Rattle.law_kept.specs.Same.{same-eq, same-sym}
 use Rattle.table_expiry.proofs.Rules.{together, kept-rules}
-use Rattle.table_expiry.proofs.Aging.{whole-tidy, fresh-now, aged-same, entries-expired, tidy-expired, expired-steady}
+use Rattle.table_expiry.proofs.Aging.{whole-tidy, fresh-now, aged-same, entries-expired, tidy-expired, expired-still}
 use Rattle.law_kept.specs.Entering.{entries-entered, tidy-entered}
 
 -- ---- a test of each entry, over expiry and over entering
@@ -214,7 +214,7 @@ kept-expired own clock time t h k =
 
 -- at its clock nothing of it is left to expire
 pub kept-still : (own : Mi) (clock : ℕ) (t : Table) → Kept own clock t → expired clock t ≡ t
-kept-still own clock t k = let r = kept-rules k in expired-steady clock t (steady (entries t) (r .ages) (r .proofs))
+kept-still own clock t k = let r = kept-rules k in expired-still clock t (k .tidy) (steady (entries t) (r .ages) (r .proofs))
   where
     one : (p : Peer) → freshProof clock p ≡ true → lapsed clock p ≡ false
     one p e = by-cases (p .proven) (λ a. let f = rw a at e in rw (a, f)) (λ a. rw a)

@@ -1,23 +1,36 @@
 -- Expiry, as a law of the list of entries.
-use Prim.Native.Nat.{ℕ, _-_, _≤_, min}
+use Prim.Native.Nat.{ℕ, _+_, _-_, _≤_, min}
 use mathlib.Core.Path.{_≡_, refl, ap, sym, _∙_}
 use mathlib.Core.Bool.{true, false, not}
-use mathlib.Core.List.{List, [], _∷_}
+use mathlib.Core.List.{List, [], _∷_, _++_, append-assoc, append-nil}
 use native.Mathlib.Omega.{arith}
-use lib.ListN.{length, length-take}
+use lib.ListN.{length, take, drop, replicate, length-take, take-append-drop, replicate-append-replicate}
+use lib.Seq.{take-at, drop-at}
 use borrow.Author.Tests.{ltb-false, le-ltb, lt-ltb, not-true}
 use Rattle.table.specs.declared.Peer.{Peer}
 use Rattle.table.specs.declared.Table.{Table}
-use Rattle.law_lists.specs.Lists.{those}
+use Rattle.law_lists.specs.Lists.{those, pad}
 use Rattle.table.specs.Table.{room, blankPeer, entries, tableOf, emptyTable}
-use Rattle.table_expiry.specs.Expiry.{lifeTime, freshAt, freshPeer, lapsed, unproven, agedPeer, agedList, stillPeer, steadyIn, rebuilt, expired}
+use Rattle.table_expiry.specs.Expiry.{lifeTime, freshAt, freshPeer, lapsed, unproven, agedPeer, agedList, stillPeer, steadyIn, refilled, expired}
 use Rattle.table_expiry.specs.Kept.{Tidy}
 use Rattle.law_lists.specs.Laws.{by-cases, clash, first-of, second-of, length-those, length-of-map, length-pad, take-pad}
+
+-- ---- lists
+
+-- room past a list, in two parts
+pub pad-more : (n k : ℕ) (d : Peer) (l : List Peer) → length l ≤ k → k ≤ n → pad k d l ++ replicate (n - k) d ≡ pad n d l
+pad-more n k d l h g =
+    let e : k - length l + (n - k) ≡ n - length l = omega arith in
+    append-assoc l (replicate (k - length l) d) (replicate (n - k) d)
+    ∙ ap (λ (r : List Peer). l ++ r) (replicate-append-replicate (k - length l) (n - k) d ∙ ap (λ (j : ℕ). replicate j d) e)
 
 -- ---- the table of a list
 
 pub at-most-16 : (t : Table) → length (entries t) ≤ 16
 at-most-16 t = omega (arith, length-take (min (t .count) room) (t .peers))
+
+pub length-entries : (t : Table) → length (t .peers) ≡ 16 → length (entries t) ≡ min (t .count) room
+length-entries t whole = omega (arith, length-take (min (t .count) room) (t .peers))
 
 pub entries-tableOf : (l : List Peer) → length l ≤ 16 → entries (tableOf l) ≡ l
 entries-tableOf l h = let e : min (length l) 16 ≡ length l = omega arith in rw e (take-pad 16 blankPeer l)
@@ -31,6 +44,13 @@ whole-tidy t tidy = ap (λ (u : Table). length (u .peers)) tidy ∙ length-pad 1
 
 pub count-tidy : (t : Table) → Tidy t → t .count ≡ length (entries t)
 count-tidy t tidy = ap (λ (u : Table). u .count) tidy
+
+-- the table with its count taken as at most 16
+abbrev pub counted : Table → Table
+counted t = record { peers = t .peers; count = min (t .count) room }
+
+pub entries-counted : (t : Table) → entries (counted t) ≡ entries t
+entries-counted t = let e : min (min (t .count) 16) 16 ≡ min (t .count) 16 = omega arith in rw e
 
 pub entries-empty : entries emptyTable ≡ []
 unfolding emptyTable
@@ -76,18 +96,6 @@ steady-aged time (p ∷ l) e =
     let k = not-true (lapsed time p) (second-of (freshPeer time p) (not (lapsed time p)) s) in
     rw (f, k, steady-aged time l (second-of (stillPeer time p) (steadyIn time l) e))
 
--- what is steady was steady
-pub steady-before : (clock time : ℕ) (l : List Peer) → clock ≤ time → steadyIn time l ≡ true → steadyIn clock l ≡ true
-steady-before clock time [] h e = refl
-steady-before clock time (p ∷ l) h e =
-    let s = first-of (stillPeer time p) (steadyIn time l) e in
-    let f = first-of (freshPeer time p) (not (lapsed time p)) s in
-    let k = not-true (lapsed time p) (second-of (freshPeer time p) (not (lapsed time p)) s) in
-    let r = steady-before clock time l h (second-of (stillPeer time p) (steadyIn time l) e) in
-    by-cases (freshPeer clock p)
-    (λ a. by-cases (lapsed clock p) (λ b. clash (sym k ∙ lapsed-later clock time p h b)) (λ b. rw (a, b) r))
-    (λ a. clash (sym (old-later clock time (p .accepted) h a) ∙ f))
-
 -- expiry at a later time after an earlier one is expiry at the later
 pub aged-later : (clock time : ℕ) (l : List Peer) → clock ≤ time → agedList time (agedList clock l) ≡ agedList time l
 aged-later clock time [] h = refl
@@ -101,51 +109,63 @@ aged-later clock time (p ∷ l) h =
     (λ b. rw (a, k, b, r)))
     (λ a. rw (a, old-later clock time (p .accepted) h a, r))
 
+-- ---- other entries in the place of a table's own
+
+pub entries-refilled : (t : Table) (l : List Peer) → length l ≤ length (entries t) → entries (refilled t l) ≡ l
+entries-refilled t l h =
+    let e : min (length l) 16 ≡ length l = omega (arith, at-most-16 t) in
+    rw (e, append-assoc) (take-at l _ (length l) refl)
+
+-- with its own it is the same
+refilled-own : (t : Table) → length (t .peers) ≡ 16 → refilled t (entries t) ≡ counted t
+refilled-own t whole =
+    let e = length-entries t whole in
+    let none : min (t .count) 16 - min (t .count) 16 ≡ 0 = omega arith in
+    rw (e, none, append-nil, take-append-drop (min (t .count) 16) (t .peers))
+
+-- with fewer, and then fewer again
+refilled-twice : (t : Table) (l m : List Peer) → length l ≤ length (entries t) → length m ≤ length l → refilled (refilled t l) m ≡ refilled t m
+refilled-twice t l m h g =
+    let past = drop (length (entries t)) (t .peers) in
+    let more = ap (λ (r : List Peer). r ++ past) (pad-more (length (entries t)) (length l) blankPeer m g h) in
+    let from : drop (length l) (pad (length (entries t)) blankPeer l ++ past) ≡ replicate (length (entries t) - length l) blankPeer ++ past = rw append-assoc (drop-at l _ (length l) refl) in
+    ap (λ (e : List Peer). record { peers = pad (length e) blankPeer m ++ drop (length e) (refilled t l .peers); count = length m }) (entries-refilled t l h)
+    ∙ ap (λ (r : List Peer). record { peers = r; count = length m }) (ap (λ (r : List Peer). pad (length l) blankPeer m ++ r) from ∙ sym (append-assoc (pad (length l) blankPeer m) (replicate (length (entries t) - length l) blankPeer) past) ∙ more)
+
+-- blank slots past the count stay blank
+refilled-tidy : (t : Table) (l : List Peer) → length l ≤ length (entries t) → Tidy t → refilled t l ≡ tableOf l
+refilled-tidy t l h tidy =
+    let past : drop (length (entries t)) (t .peers) ≡ replicate (16 - length (entries t)) blankPeer = ap (λ (u : Table). drop (length (entries t)) (u .peers)) tidy ∙ drop-at (entries t) _ (length (entries t)) refl in
+    ap (λ (r : List Peer). record { peers = r; count = length l })
+    (ap (λ (r : List Peer). pad (length (entries t)) blankPeer l ++ r) past ∙ pad-more 16 (length (entries t)) blankPeer l h (at-most-16 t))
+
 -- ---- the table
 
-rebuilt-entries : (time : ℕ) (t : Table) → entries (tableOf (agedList time (entries t))) ≡ agedList time (entries t)
-rebuilt-entries time t = entries-tableOf (agedList time (entries t)) (omega (arith, length-aged time (entries t), at-most-16 t))
-
 pub entries-expired : (time : ℕ) (t : Table) → entries (expired time t) ≡ agedList time (entries t)
-unfolding expired rebuilt
-entries-expired time t =
-    by-cases (steadyIn time (entries t))
-    (λ e. rw e (sym (steady-aged time (entries t) e)))
-    (λ e. rw e (rebuilt-entries time t))
-
--- a table in which nothing expires comes back as it is
-pub expired-steady : (time : ℕ) (t : Table) → steadyIn time (entries t) ≡ true → expired time t ≡ t
 unfolding expired
-expired-steady time t e = rw e
+entries-expired time t = entries-refilled t (agedList time (entries t)) (length-aged time (entries t))
 
--- on a table with blank slots past its count it makes no difference whether a steady one is rebuilt
-pub expired-tidy : (time : ℕ) (t : Table) → Tidy t → expired time t ≡ rebuilt time t
-unfolding expired rebuilt
-expired-tidy time t h =
-    by-cases (steadyIn time (entries t))
-    (λ e. rw e (h ∙ ap tableOf (sym (steady-aged time (entries t) e))))
-    (λ e. rw e)
+-- a table in which nothing expires comes back as it is, a count above 16 as 16
+pub expired-steady : (time : ℕ) (t : Table) → length (t .peers) ≡ 16 → steadyIn time (entries t) ≡ true → expired time t ≡ counted t
+unfolding expired
+expired-steady time t whole e = ap (refilled t) (steady-aged time (entries t) e) ∙ refilled-own t whole
+
+-- of one with blank slots past its count the table of what stays is left
+pub expired-tidy : (time : ℕ) (t : Table) → Tidy t → expired time t ≡ tableOf (agedList time (entries t))
+unfolding expired
+expired-tidy time t h = refilled-tidy t (agedList time (entries t)) (length-aged time (entries t)) h
 
 pub tidy-expired : (time : ℕ) (t : Table) → Tidy t → Tidy (expired time t)
-unfolding rebuilt
-tidy-expired time t h = rw (expired-tidy time t h) (ap tableOf (sym (rebuilt-entries time t)))
+tidy-expired time t h = expired-tidy time t h ∙ ap tableOf (sym (entries-expired time t))
 
--- a table that is not steady was rebuilt, and would be
-rebuilt-at : (clock time : ℕ) (t : Table) → clock ≤ time → steadyIn clock (entries t) ≡ false → expired time t ≡ rebuilt time t
-unfolding expired
-rebuilt-at clock time t h e =
-    by-cases (steadyIn time (entries t))
-    (λ s. clash (sym e ∙ steady-before clock time (entries t) h s))
-    (λ s. rw s)
-
-rebuilt-twice : (clock time : ℕ) (t : Table) → clock ≤ time → expired time (rebuilt clock t) ≡ rebuilt time t
-unfolding rebuilt
-rebuilt-twice clock time t h =
-    expired-tidy time (tableOf (agedList clock (entries t))) (ap tableOf (sym (rebuilt-entries clock t)))
-    ∙ rw (rebuilt-entries clock t, aged-later clock time (entries t) h)
+-- and the whole of it where nothing expires
+pub expired-still : (time : ℕ) (t : Table) → Tidy t → steadyIn time (entries t) ≡ true → expired time t ≡ t
+expired-still time t h e = expired-tidy time t h ∙ ap tableOf (steady-aged time (entries t) e) ∙ sym h
 
 pub expired-later : (clock time : ℕ) (t : Table) → clock ≤ time → expired time (expired clock t) ≡ expired time t
+unfolding expired
 expired-later clock time t h =
-    by-cases (steadyIn clock (entries t))
-    (λ e. ap (expired time) (expired-steady clock t e))
-    (λ e. ap (expired time) (rebuilt-at clock clock t (omega arith) e) ∙ rebuilt-twice clock time t h ∙ sym (rebuilt-at clock time t h e))
+    let l = agedList clock (entries t) in
+    let e = ap (agedList time) (entries-refilled t l (length-aged clock (entries t))) ∙ aged-later clock time (entries t) h in
+    ap (refilled (refilled t l)) e
+    ∙ refilled-twice t l (agedList time (entries t)) (length-aged clock (entries t)) (rw (← aged-later clock time (entries t) h) (length-aged time l))

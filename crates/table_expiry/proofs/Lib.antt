@@ -1,3 +1,4 @@
 -- The laws that the layers above cite.
 pub mod Aging
 pub mod Rules
+pub mod Moving

@@ -1,12 +1,13 @@
 -- "Each timed call first expires": what a time leaves of the table.
 use Prim.Native.Nat.{ℕ, _-_}
 use mathlib.Core.Bool.{Bool, false, cond, not, _&&_, _||_}
-use mathlib.Core.List.{List, map}
+use mathlib.Core.List.{List, map, _++_}
+use lib.ListN.{length, drop}
 use lib.Dec.{ltb, leb}
 use Rattle.table.specs.declared.Peer.{Peer}
 use Rattle.table.specs.declared.Table.{Table}
-use Rattle.law_lists.specs.Lists.{those, every}
-use Rattle.table.specs.Table.{entries, tableOf}
+use Rattle.law_lists.specs.Lists.{those, every, pad}
+use Rattle.table.specs.Table.{blankPeer, entries}
 
 -- "Life time 6,000"
 abbrev pub lifeTime : ℕ
@@ -45,6 +46,16 @@ agedPeer time p = cond (lapsed time p) (unproven p) p
 abbrev pub agedList : ℕ → List Peer → List Peer
 agedList time l = map (agedPeer time) (those (freshPeer time) l)
 
+-- The table with the entries l in the place of its own: blank slots where entries went, those past the entries as they were.
+abbrev pub refilled : Table → List Peer → Table
+refilled t l = record { peers = pad (length (entries t)) blankPeer l ++ drop (length (entries t)) (t .peers); count = length l }
+
+-- The same of a table.
+unfoldable pub expired : ℕ → Table → Table
+expired time t = refilled t (agedList time (entries t))
+
+-- ---- the code's shortcut (Aging has its laws)
+
 -- Nothing of an entry is old.
 abbrev pub stillPeer : ℕ → Peer → Bool
 stillPeer time p = freshPeer time p && not (lapsed time p)
@@ -54,14 +65,7 @@ steadyIn time l = every (stillPeer time) l
 
 -- The same by one comparison each: the earliest time that is less than a life time old, and nothing of an entry is from before it.
 abbrev pub oldestAt : ℕ → ℕ
-oldestAt time = time - 5999
+oldestAt time = time - (lifeTime - 1)
 
 abbrev pub stillFrom : ℕ → Peer → Bool
 stillFrom from p = leb from (p .accepted) && (not (p .proven) || leb from (p .proof))
-
-unfoldable pub rebuilt : ℕ → Table → Table
-rebuilt time t = tableOf (agedList time (entries t))
-
--- The table at a time. One in which nothing expires comes back as it is.
-unfoldable pub expired : ℕ → Table → Table
-expired time t = cond (steadyIn time (entries t)) t (rebuilt time t)

@@ -5,7 +5,7 @@ use table::ROOM;
 use table::Table;
 ghost use mathlib.Core.Path.{_≡_};
 ghost use Rattle.table.specs.Table.{entries};
-ghost use Rattle.table_expiry.specs.Expiry.{freshAt, lapsed, agedPeer, stillPeer, steadyIn, rebuilt, expired, oldestAt, stillFrom};
+ghost use Rattle.table_expiry.specs.Expiry.{freshAt, lapsed, agedPeer, stillPeer, steadyIn, expired, oldestAt, stillFrom};
 
 // The life time in milliseconds.
 const LIFE: u64 = 6000;
@@ -92,34 +92,36 @@ fn steady(t: Table, time: u64) -> bool
     true
 }
 
+// The entries that stay move up, without what is old of them, and what they leave is blank.
 fn rebuild(t: Table, time: u64) -> Table
-    ensures { λ r. ⌜ r ≡ rebuilt time t ⌝ }
+    ensures { λ r. ⌜ r ≡ expired time t ⌝ }
 {
-    let old = t.peers;
+    let mut peers = t.peers;
     let n = base_facts::at_most(t.count, ROOM);
-    let mut out = [table::blank(); ROOM];
     let mut k: usize = 0;
     let mut i: usize = 0;
     while i < n {
-        let p = old[i];
+        let p = peers[i];
+        peers[i] = table::blank();
         if fresh(time, p.accepted) {
-            out[k] = aged(p, time);
+            peers[k] = aged(p, time);
             k += 1;
         }
         i += 1;
     }
-    Table {
-        peers: out,
-        count: k,
-    }
+    Table { peers, count: k }
 }
 
-// A table in which nothing expires comes back as it is.
+// Where nothing expires only the count may be another: one above 16 is 16.
 pub fn expire(t: Table, time: u64) -> Table
     ensures { λ r. ⌜ r ≡ expired time t ⌝ }
 {
     if steady(t, time) {
-        return t;
+        let peers = t.peers;
+        return Table {
+            peers,
+            count: base_facts::at_most(t.count, ROOM),
+        };
     }
     rebuild(t, time)
 }

@@ -22,10 +22,10 @@ use Rattle.call_receive.proofs.receive.Statement.{statement}
 use Rattle.call_receive.proofs.receive.Tie as tie
 
 abbrev Inv-loop : tie.InvT-loop
-Inv-loop p time verdict frame b w own m t count n from at₀ i₀ at i = (i ≤ n) × (at ≤ n) × (steadyIn time (drop i (take n (t .peers))) ≡ steadyIn time (take n (t .peers))) × (sought m at n i (getD (t .peers) at blankPeer) (drop i (take n (t .peers))) ≡ seek m 0 (take n (t .peers)))
+Inv-loop p time verdict frame b w own m t n from at₀ i₀ at i = (i ≤ n) × (at ≤ n) × (steadyIn time (drop i (take n (t .peers))) ≡ steadyIn time (take n (t .peers))) × (sought m at n i (getD (t .peers) at blankPeer) (drop i (take n (t .peers))) ≡ seek m 0 (take n (t .peers)))
 
 abbrev μ-loop : tie.MeasureT-loop
-μ-loop p time verdict frame b w own m t count n from at₀ i₀ at i = n - i
+μ-loop p time verdict frame b w own m t n from at₀ i₀ at i = n - i
 
 sized : (c : tie.Start Inv-loop μ-loop) → length (c .args .p .table .peers) ≡ 16
 sized c = sym (length-map (c .args .p .table .peers) _) ∙ c .good .0 .1 .1 .1 .1 .1 .1 .1 .1 .1 .1 .1 .1 .1 .1 .1 .1 .0 .1 .1 .0 .1 .0 .1
@@ -42,7 +42,7 @@ good c =
 -- nothing expires, and this is what looking the sender up gives
 known : (c : tie.After-found Inv-loop μ-loop)
     → let a = c .before .before .before .before .before .before .before .before .before .before .before .before .before .before .before .before .before .before .before .args in
-    (steadyIn (a .time) (entries (a .p .table)) ≡ true) × (c .found .result ≡ heldIn (c .before .before .before .before .before .before .before .before .before .before .before .before .before .before .before .j .given .0 .0 .mi) (a .p .table))
+    (steadyIn (a .time) (entries (a .p .table)) ≡ true) × (c .found .result ≡ heldIn (c .before .before .before .before .before .before .before .before .before .before .before .before .before .before .before .j .given .0 .0 .mi) (a .p .table)) × (length (a .p .table .peers) ≡ 16)
 unfolding heldIn
 known c =
     let a = c .before .before .before .before .before .before .before .before .before .before .before .before .before .before .before .before .before .before .before .args in
@@ -51,14 +51,13 @@ known c =
     let peers = a .p .table .peers in
     let s = rw (drop-end _ (l .i) peers (c .before .before .before .loop-test .left), few) at (l .inv .2) in
     let f = sought-end (c .before .before .before .before .before .before .at-most .result) peers (a .p .table .count) (sized (c .before .before .before .before .before .before .before .before .before .before .before .before .before .before .before .before .before .before .before)) few _ (l .at) (l .i) _ (c .before .before .before .loop-test .left) (l .inv .1) (l .inv .3) in
-    (sym s, c .found .ensures ∙ rw (c .before .before .at-most2 .ensures) (f ∙ rw few))
+    (sym s, c .found .ensures ∙ rw (c .before .before .at-most2 .ensures) (f ∙ rw few), sized (c .before .before .before .before .before .before .before .before .before .before .before .before .before .before .before .before .before .before .before))
 
 -- the entry's place is one of the 16
 within : (c : tie.After-place Inv-loop μ-loop) → c .place .result < 16
 within c =
-    let few : c .before .before .before .before .before .before .before .before .before .before .before .before .before .before .before .before .at-most .result ≤ 16 = omega (arith, c .before .before .before .before .before .before .before .before .before .before .before .before .before .before .before .before .at-most .ensures) in
     let e = rw (c .before .before .before .before .before .before .before .before .before .before .found .ensures) at (sym (c .before .before .before .before .before .no-room .ensures) ∙ check-passed (c .before .before .before .before .before .no-room .result) (sym (c .before .before .before .before .fail-if3 .ensures) ∙ c .before .before .enum-told6 .given .1)) in
-    let f = place-fits (c .before .before .before .before .before .before .before .before .before .before .before .before .before .before .loop .at) (c .before .before .before .before .before .before .before .before .before .before .before .before .before .before .before .before .at-most .result) _ (c .before .before .before .before .before .before .before .before .before .before .before .before .before .before .before .before .before .before .before .before .before .before .before .before .before .before .before .before .before .args .p .table) (c .before .before .before .before .before .before .before .before .before .before .before .before .before .before .loop .inv .1) few e in
+    let f = place-fits (c .before .before .before .before .before .before .before .before .before .before .before .before .before .before .loop .at) (c .before .before .before .before .before .before .before .before .before .before .before .before .before .before .before .before .at-most .result) _ (c .before .before .before .before .before .before .before .before .before .before .before .before .before .before .before .before .before .before .before .before .before .before .before .before .before .before .before .before .before .args .p .table) (c .before .before .before .before .before .before .before .before .before .before .before .before .before .before .loop .inv .1) (c .before .before .before .before .before .before .before .before .before .before .before .before .before .before .before .before .at-most .ensures) e in
     rw (c .place .ensures, c .before .before .before .before .before .before .before .before .before .before .found .ensures) f
 
 -- and this is what the participant becomes
@@ -67,13 +66,13 @@ kept : (c : tie.After-with-table Inv-loop μ-loop)
     let b = c .before .before .before .before .before .before .before .before .before .before .before .before .before .before .before .before .before .before .before .before .before .before .before .before .before .before .before .before .before .before .before .j .given .0 .0 in
     let w = c .before .before .before .before .before .before .before .before .before .before .before .before .before .before .before .before .before .before .before .before .before .before .before .before .before .before .before .before .before .before .before .j .given .0 .1 .0 in
     let k = known (c .before .before .before .before .before .before .before .before .before .before .before .before .before .before .before .before) in
-    c .with-table .result ≡ stored (a .p) (a .time) (now (a .frame)) b w (c .before .before .before .before .before .before .before .before .before .before .before .before .before .before .before .before .found .result) (k .0) (k .1) (provesIn (now (a .frame)) w (a .p .mi) (a .p .mn))
+    c .with-table .result ≡ stored (a .p) (a .time) (now (a .frame)) b w (c .before .before .before .before .before .before .before .before .before .before .before .before .before .before .before .before .found .result) (k .2) (k .0) (k .1) (provesIn (now (a .frame)) w (a .p .mi) (a .p .mn))
 kept c =
     let a = c .before .before .before .before .before .before .before .before .before .before .before .before .before .before .before .before .before .before .before .before .before .before .before .before .before .before .before .before .before .before .before .before .before .before .before .args in
     let w = c .before .before .before .before .before .before .before .before .before .before .before .before .before .before .before .before .before .before .before .before .before .before .before .before .before .before .before .before .before .before .before .j .given .0 .1 .0 in
     let e : c .before .before .before .before .before .before .before .proves .result ≡ provesIn (now (a .frame)) w (a .p .mi) (a .p .mn) = c .before .before .before .before .before .before .before .proves .ensures in
     let f : c .before .before .becomes-live .result ≡ becomesLive (c .before .before .before .before .before .before .before .before .before .before .before .before .before .before .before .before .found .result) (c .before .before .before .before .before .before .before .proves .result) = c .before .before .becomes-live .ensures in
-    rw (← e, ← c .before .before .before .before .before .heard-of .ensures, ← c .before .before .before .before .anew .ensures, ← c .before .before .before .before .before .before .place .ensures, ← c .before .before .before .grown .ensures, ← f, ← c .before .either .ensures) (c .with-table .ensures)
+    rw (← c .before .before .before .before .before .before .before .before .before .before .before .before .before .before .before .before .before .before .before .before .before .before .at-most .ensures, ← e, ← c .before .before .before .before .before .heard-of .ensures, ← c .before .before .before .before .anew .ensures, ← c .before .before .before .before .before .before .place .ensures, ← c .before .before .before .grown .ensures, ← f, ← c .before .either .ensures) (c .with-table .ensures)
 
 judge-requires : tie.Need-judge-requires Inv-loop μ-loop
 judge-requires c κs = search needs
@@ -192,7 +191,7 @@ refused-requires-3 : tie.Need-refused-requires-3 Inv-loop μ-loop
 refused-requires-3 c κs = search needs
 
 returns-4 : tie.Need-returns-4 Inv-loop μ-loop
-returns-4 c = c .refused3 .ensures ∙ sym (good ((c .before .before .before .before .before .before .before .before .before .before .before .before)) ∙ settled-stale (c .before .before .before .before .before .before .before .before .before .before .before .before .before .before .before .before .before .before .before .before .before .before .before .before .args .p) (c .before .before .before .before .before .before .before .before .before .before .before .before .before .before .before .before .before .before .before .before .before .before .before .before .args .time) (now (c .before .before .before .before .before .before .before .before .before .before .before .before .before .before .before .before .before .before .before .before .before .before .before .before .args .frame)) (c .before .before .before .before .before .before .before .before .before .before .before .before .before .before .before .before .before .before .before .before .j .given .0 .0) (c .before .before .before .before .before .before .before .before .before .before .before .before .before .before .before .before .before .before .before .before .j .given .0 .1 .0) (c .before .before .before .before .before .found .result) (known ((c .before .before .before .before .before)) .0) (known ((c .before .before .before .before .before)) .1) (sym (c .before .before .before .before .stale .ensures) ∙ check-failed (c .before .before .before .before .stale .result) (sym (c .before .before .before .fail-if2 .ensures) ∙ c .before .enum-told5 .given .1)))
+returns-4 c = c .refused3 .ensures ∙ sym (good ((c .before .before .before .before .before .before .before .before .before .before .before .before)) ∙ settled-stale (c .before .before .before .before .before .before .before .before .before .before .before .before .before .before .before .before .before .before .before .before .before .before .before .before .args .p) (c .before .before .before .before .before .before .before .before .before .before .before .before .before .before .before .before .before .before .before .before .before .before .before .before .args .time) (now (c .before .before .before .before .before .before .before .before .before .before .before .before .before .before .before .before .before .before .before .before .before .before .before .before .args .frame)) (c .before .before .before .before .before .before .before .before .before .before .before .before .before .before .before .before .before .before .before .before .j .given .0 .0) (c .before .before .before .before .before .before .before .before .before .before .before .before .before .before .before .before .before .before .before .before .j .given .0 .1 .0) (c .before .before .before .before .before .found .result) (known ((c .before .before .before .before .before)) .2) (known ((c .before .before .before .before .before)) .0) (known ((c .before .before .before .before .before)) .1) (sym (c .before .before .before .before .stale .ensures) ∙ check-failed (c .before .before .before .before .stale .result) (sym (c .before .before .before .fail-if2 .ensures) ∙ c .before .enum-told5 .given .1)))
 
 no-room-requires : tie.Need-no-room-requires Inv-loop μ-loop
 no-room-requires c κs = search needs
@@ -210,7 +209,7 @@ refused-requires-4 : tie.Need-refused-requires-4 Inv-loop μ-loop
 refused-requires-4 c κs = search needs
 
 returns-5 : tie.Need-returns-5 Inv-loop μ-loop
-returns-5 c = c .refused4 .ensures ∙ sym (good ((c .before .before .before .before .before .before .before .before .before .before .before .before .before .before .before .before)) ∙ settled-full (c .before .before .before .before .before .before .before .before .before .before .before .before .before .before .before .before .before .before .before .before .before .before .before .before .before .before .before .before .args .p) (c .before .before .before .before .before .before .before .before .before .before .before .before .before .before .before .before .before .before .before .before .before .before .before .before .before .before .before .before .args .time) (now (c .before .before .before .before .before .before .before .before .before .before .before .before .before .before .before .before .before .before .before .before .before .before .before .before .before .before .before .before .args .frame)) (c .before .before .before .before .before .before .before .before .before .before .before .before .before .before .before .before .before .before .before .before .before .before .before .before .j .given .0 .0) (c .before .before .before .before .before .before .before .before .before .before .before .before .before .before .before .before .before .before .before .before .before .before .before .before .j .given .0 .1 .0) (c .before .before .before .before .before .before .before .before .before .found .result) (known ((c .before .before .before .before .before .before .before .before .before)) .0) (known ((c .before .before .before .before .before .before .before .before .before)) .1) (sym (c .before .before .before .before .before .before .before .before .stale .ensures) ∙ check-passed (c .before .before .before .before .before .before .before .before .stale .result) (sym (c .before .before .before .before .before .before .before .fail-if2 .ensures) ∙ c .before .before .before .before .before .enum-told4 .given .1)) (sym (c .before .before .before .before .no-room .ensures) ∙ check-failed (c .before .before .before .before .no-room .result) (sym (c .before .before .before .fail-if3 .ensures) ∙ c .before .enum-told7 .given .1)))
+returns-5 c = c .refused4 .ensures ∙ sym (good ((c .before .before .before .before .before .before .before .before .before .before .before .before .before .before .before .before)) ∙ settled-full (c .before .before .before .before .before .before .before .before .before .before .before .before .before .before .before .before .before .before .before .before .before .before .before .before .before .before .before .before .args .p) (c .before .before .before .before .before .before .before .before .before .before .before .before .before .before .before .before .before .before .before .before .before .before .before .before .before .before .before .before .args .time) (now (c .before .before .before .before .before .before .before .before .before .before .before .before .before .before .before .before .before .before .before .before .before .before .before .before .before .before .before .before .args .frame)) (c .before .before .before .before .before .before .before .before .before .before .before .before .before .before .before .before .before .before .before .before .before .before .before .before .j .given .0 .0) (c .before .before .before .before .before .before .before .before .before .before .before .before .before .before .before .before .before .before .before .before .before .before .before .before .j .given .0 .1 .0) (c .before .before .before .before .before .before .before .before .before .found .result) (known ((c .before .before .before .before .before .before .before .before .before)) .2) (known ((c .before .before .before .before .before .before .before .before .before)) .0) (known ((c .before .before .before .before .before .before .before .before .before)) .1) (sym (c .before .before .before .before .before .before .before .before .stale .ensures) ∙ check-passed (c .before .before .before .before .before .before .before .before .stale .result) (sym (c .before .before .before .before .before .before .before .fail-if2 .ensures) ∙ c .before .before .before .before .before .enum-told4 .given .1)) (sym (c .before .before .before .before .no-room .ensures) ∙ check-failed (c .before .before .before .before .no-room .result) (sym (c .before .before .before .fail-if3 .ensures) ∙ c .before .enum-told7 .given .1)))
 
 proves-requires : tie.Need-proves-requires Inv-loop μ-loop
 proves-requires c κs = search needs
@@ -224,8 +223,8 @@ heard-of-requires c κs = search needs
 anew-requires : tie.Need-anew-requires Inv-loop μ-loop
 anew-requires c κs = search needs
 
-mul-t39 : tie.Need-mul-t39 Inv-loop μ-loop
-mul-t39 c = let h = within (c .before .before) in search needs
+mul-t32 : tie.Need-mul-t32 Inv-loop μ-loop
+mul-t32 c = let h = within (c .before .before) in search needs
 
 element-set-from-t : tie.Need-element-set-from-t Inv-loop μ-loop
 element-set-from-t c = omega (arith, within (c .before .before))
@@ -246,10 +245,10 @@ accepted-requires : tie.Need-accepted-requires Inv-loop μ-loop
 accepted-requires c κs = search needs
 
 returns-6 : tie.Need-returns-6 Inv-loop μ-loop
-returns-6 c = c .accepted .ensures ∙ ap (λ (q : Participant). acceptedOf (keyedOf q (now (c .before .before .before .before .before .before .before .before .before .before .before .before .before .before .before .before .before .before .before .before .before .before .before .before .before .before .before .before .before .before .before .before .before .before .before .before .before .before .args .frame)) (c .before .before .before .before .before .before .before .before .before .before .before .before .before .before .before .before .before .before .before .before .before .before .before .before .before .before .before .before .before .before .before .before .before .before .j .given .0 .0 .mi) (c .before .before .before .before .before .before .before .before .before .before .before .before .before .before .before .before .before .before .before .before .before .before .before .before .before .before .before .before .before .before .before .before .before .before .j .given .0 .1 .0 .sak))) (kept ((c .before .before .before))) ∙ sym (good ((c .before .before .before .before .before .before .before .before .before .before .before .before .before .before .before .before .before .before .before .before .before .before .before .before .before .before)) ∙ settled-good (c .before .before .before .before .before .before .before .before .before .before .before .before .before .before .before .before .before .before .before .before .before .before .before .before .before .before .before .before .before .before .before .before .before .before .before .before .before .before .args .p) (c .before .before .before .before .before .before .before .before .before .before .before .before .before .before .before .before .before .before .before .before .before .before .before .before .before .before .before .before .before .before .before .before .before .before .before .before .before .before .args .time) (now (c .before .before .before .before .before .before .before .before .before .before .before .before .before .before .before .before .before .before .before .before .before .before .before .before .before .before .before .before .before .before .before .before .before .before .before .before .before .before .args .frame)) (c .before .before .before .before .before .before .before .before .before .before .before .before .before .before .before .before .before .before .before .before .before .before .before .before .before .before .before .before .before .before .before .before .before .before .j .given .0 .0) (c .before .before .before .before .before .before .before .before .before .before .before .before .before .before .before .before .before .before .before .before .before .before .before .before .before .before .before .before .before .before .before .before .before .before .j .given .0 .1 .0) (c .before .before .before .before .before .before .before .before .before .before .before .before .before .before .before .before .before .before .before .found .result) (known ((c .before .before .before .before .before .before .before .before .before .before .before .before .before .before .before .before .before .before .before)) .0) (known ((c .before .before .before .before .before .before .before .before .before .before .before .before .before .before .before .before .before .before .before)) .1) (sym (c .before .before .before .before .before .before .before .before .before .before .before .before .before .before .before .before .before .before .stale .ensures) ∙ check-passed (c .before .before .before .before .before .before .before .before .before .before .before .before .before .before .before .before .before .before .stale .result) (sym (c .before .before .before .before .before .before .before .before .before .before .before .before .before .before .before .before .before .fail-if2 .ensures) ∙ c .before .before .before .before .before .before .before .before .before .before .before .before .before .before .before .enum-told4 .given .1)) (sym (c .before .before .before .before .before .before .before .before .before .before .before .before .before .before .no-room .ensures) ∙ check-passed (c .before .before .before .before .before .before .before .before .before .before .before .before .before .before .no-room .result) (sym (c .before .before .before .before .before .before .before .before .before .before .before .before .before .fail-if3 .ensures) ∙ c .before .before .before .before .before .before .before .before .before .before .before .enum-told6 .given .1)))
+returns-6 c = c .accepted .ensures ∙ ap (λ (q : Participant). acceptedOf (keyedOf q (now (c .before .before .before .before .before .before .before .before .before .before .before .before .before .before .before .before .before .before .before .before .before .before .before .before .before .before .before .before .before .before .before .before .before .before .before .before .before .before .args .frame)) (c .before .before .before .before .before .before .before .before .before .before .before .before .before .before .before .before .before .before .before .before .before .before .before .before .before .before .before .before .before .before .before .before .before .before .j .given .0 .0 .mi) (c .before .before .before .before .before .before .before .before .before .before .before .before .before .before .before .before .before .before .before .before .before .before .before .before .before .before .before .before .before .before .before .before .before .before .j .given .0 .1 .0 .sak))) (kept ((c .before .before .before))) ∙ sym (good ((c .before .before .before .before .before .before .before .before .before .before .before .before .before .before .before .before .before .before .before .before .before .before .before .before .before .before)) ∙ settled-good (c .before .before .before .before .before .before .before .before .before .before .before .before .before .before .before .before .before .before .before .before .before .before .before .before .before .before .before .before .before .before .before .before .before .before .before .before .before .before .args .p) (c .before .before .before .before .before .before .before .before .before .before .before .before .before .before .before .before .before .before .before .before .before .before .before .before .before .before .before .before .before .before .before .before .before .before .before .before .before .before .args .time) (now (c .before .before .before .before .before .before .before .before .before .before .before .before .before .before .before .before .before .before .before .before .before .before .before .before .before .before .before .before .before .before .before .before .before .before .before .before .before .before .args .frame)) (c .before .before .before .before .before .before .before .before .before .before .before .before .before .before .before .before .before .before .before .before .before .before .before .before .before .before .before .before .before .before .before .before .before .before .j .given .0 .0) (c .before .before .before .before .before .before .before .before .before .before .before .before .before .before .before .before .before .before .before .before .before .before .before .before .before .before .before .before .before .before .before .before .before .before .j .given .0 .1 .0) (c .before .before .before .before .before .before .before .before .before .before .before .before .before .before .before .before .before .before .before .found .result) (known ((c .before .before .before .before .before .before .before .before .before .before .before .before .before .before .before .before .before .before .before)) .2) (known ((c .before .before .before .before .before .before .before .before .before .before .before .before .before .before .before .before .before .before .before)) .0) (known ((c .before .before .before .before .before .before .before .before .before .before .before .before .before .before .before .before .before .before .before)) .1) (sym (c .before .before .before .before .before .before .before .before .before .before .before .before .before .before .before .before .before .before .stale .ensures) ∙ check-passed (c .before .before .before .before .before .before .before .before .before .before .before .before .before .before .before .before .before .before .stale .result) (sym (c .before .before .before .before .before .before .before .before .before .before .before .before .before .before .before .before .before .fail-if2 .ensures) ∙ c .before .before .before .before .before .before .before .before .before .before .before .before .before .before .before .enum-told4 .given .1)) (sym (c .before .before .before .before .before .before .before .before .before .before .before .before .before .before .no-room .ensures) ∙ check-passed (c .before .before .before .before .before .before .before .before .before .before .before .before .before .before .no-room .result) (sym (c .before .before .before .before .before .before .before .before .before .before .before .before .before .fail-if3 .ensures) ∙ c .before .before .before .before .before .before .before .before .before .before .before .enum-told6 .given .1)))
 
 returns-7 : tie.Need-returns-7 Inv-loop μ-loop
-returns-7 c = no-sak (c .before .before .with-table .result) (now (c .before .before .before .before .before .before .before .before .before .before .before .before .before .before .before .before .before .before .before .before .before .before .before .before .before .before .before .before .before .before .before .before .before .before .before .before .before .args .frame)) (c .before .before .before .before .before .before .before .before .before .before .before .before .before .before .before .before .before .before .before .before .before .before .before .before .before .before .before .before .before .before .before .before .before .j .given .0 .0 .mi) (c .before .before .before .before .before .before .before .before .before .before .before .before .before .before .before .before .before .before .before .before .before .before .before .before .before .before .before .before .before .before .before .before .before .j .given .0 .1 .0 .sak) (c .if2 .left) ∙ ap (λ (q : Participant). acceptedOf (keyedOf q (now (c .before .before .before .before .before .before .before .before .before .before .before .before .before .before .before .before .before .before .before .before .before .before .before .before .before .before .before .before .before .before .before .before .before .before .before .before .before .args .frame)) (c .before .before .before .before .before .before .before .before .before .before .before .before .before .before .before .before .before .before .before .before .before .before .before .before .before .before .before .before .before .before .before .before .before .j .given .0 .0 .mi) (c .before .before .before .before .before .before .before .before .before .before .before .before .before .before .before .before .before .before .before .before .before .before .before .before .before .before .before .before .before .before .before .before .before .j .given .0 .1 .0 .sak))) (kept ((c .before .before))) ∙ sym (good ((c .before .before .before .before .before .before .before .before .before .before .before .before .before .before .before .before .before .before .before .before .before .before .before .before .before)) ∙ settled-good (c .before .before .before .before .before .before .before .before .before .before .before .before .before .before .before .before .before .before .before .before .before .before .before .before .before .before .before .before .before .before .before .before .before .before .before .before .before .args .p) (c .before .before .before .before .before .before .before .before .before .before .before .before .before .before .before .before .before .before .before .before .before .before .before .before .before .before .before .before .before .before .before .before .before .before .before .before .before .args .time) (now (c .before .before .before .before .before .before .before .before .before .before .before .before .before .before .before .before .before .before .before .before .before .before .before .before .before .before .before .before .before .before .before .before .before .before .before .before .before .args .frame)) (c .before .before .before .before .before .before .before .before .before .before .before .before .before .before .before .before .before .before .before .before .before .before .before .before .before .before .before .before .before .before .before .before .before .j .given .0 .0) (c .before .before .before .before .before .before .before .before .before .before .before .before .before .before .before .before .before .before .before .before .before .before .before .before .before .before .before .before .before .before .before .before .before .j .given .0 .1 .0) (c .before .before .before .before .before .before .before .before .before .before .before .before .before .before .before .before .before .before .found .result) (known ((c .before .before .before .before .before .before .before .before .before .before .before .before .before .before .before .before .before .before)) .0) (known ((c .before .before .before .before .before .before .before .before .before .before .before .before .before .before .before .before .before .before)) .1) (sym (c .before .before .before .before .before .before .before .before .before .before .before .before .before .before .before .before .before .stale .ensures) ∙ check-passed (c .before .before .before .before .before .before .before .before .before .before .before .before .before .before .before .before .before .stale .result) (sym (c .before .before .before .before .before .before .before .before .before .before .before .before .before .before .before .before .fail-if2 .ensures) ∙ c .before .before .before .before .before .before .before .before .before .before .before .before .before .before .enum-told4 .given .1)) (sym (c .before .before .before .before .before .before .before .before .before .before .before .before .before .no-room .ensures) ∙ check-passed (c .before .before .before .before .before .before .before .before .before .before .before .before .before .no-room .result) (sym (c .before .before .before .before .before .before .before .before .before .before .before .before .fail-if3 .ensures) ∙ c .before .before .before .before .before .before .before .before .before .before .enum-told6 .given .1)))
+returns-7 c = no-sak (c .before .before .with-table .result) (now (c .before .before .before .before .before .before .before .before .before .before .before .before .before .before .before .before .before .before .before .before .before .before .before .before .before .before .before .before .before .before .before .before .before .before .before .before .before .args .frame)) (c .before .before .before .before .before .before .before .before .before .before .before .before .before .before .before .before .before .before .before .before .before .before .before .before .before .before .before .before .before .before .before .before .before .j .given .0 .0 .mi) (c .before .before .before .before .before .before .before .before .before .before .before .before .before .before .before .before .before .before .before .before .before .before .before .before .before .before .before .before .before .before .before .before .before .j .given .0 .1 .0 .sak) (c .if2 .left) ∙ ap (λ (q : Participant). acceptedOf (keyedOf q (now (c .before .before .before .before .before .before .before .before .before .before .before .before .before .before .before .before .before .before .before .before .before .before .before .before .before .before .before .before .before .before .before .before .before .before .before .before .before .args .frame)) (c .before .before .before .before .before .before .before .before .before .before .before .before .before .before .before .before .before .before .before .before .before .before .before .before .before .before .before .before .before .before .before .before .before .j .given .0 .0 .mi) (c .before .before .before .before .before .before .before .before .before .before .before .before .before .before .before .before .before .before .before .before .before .before .before .before .before .before .before .before .before .before .before .before .before .j .given .0 .1 .0 .sak))) (kept ((c .before .before))) ∙ sym (good ((c .before .before .before .before .before .before .before .before .before .before .before .before .before .before .before .before .before .before .before .before .before .before .before .before .before)) ∙ settled-good (c .before .before .before .before .before .before .before .before .before .before .before .before .before .before .before .before .before .before .before .before .before .before .before .before .before .before .before .before .before .before .before .before .before .before .before .before .before .args .p) (c .before .before .before .before .before .before .before .before .before .before .before .before .before .before .before .before .before .before .before .before .before .before .before .before .before .before .before .before .before .before .before .before .before .before .before .before .before .args .time) (now (c .before .before .before .before .before .before .before .before .before .before .before .before .before .before .before .before .before .before .before .before .before .before .before .before .before .before .before .before .before .before .before .before .before .before .before .before .before .args .frame)) (c .before .before .before .before .before .before .before .before .before .before .before .before .before .before .before .before .before .before .before .before .before .before .before .before .before .before .before .before .before .before .before .before .before .j .given .0 .0) (c .before .before .before .before .before .before .before .before .before .before .before .before .before .before .before .before .before .before .before .before .before .before .before .before .before .before .before .before .before .before .before .before .before .j .given .0 .1 .0) (c .before .before .before .before .before .before .before .before .before .before .before .before .before .before .before .before .before .before .found .result) (known ((c .before .before .before .before .before .before .before .before .before .before .before .before .before .before .before .before .before .before)) .2) (known ((c .before .before .before .before .before .before .before .before .before .before .before .before .before .before .before .before .before .before)) .0) (known ((c .before .before .before .before .before .before .before .before .before .before .before .before .before .before .before .before .before .before)) .1) (sym (c .before .before .before .before .before .before .before .before .before .before .before .before .before .before .before .before .before .stale .ensures) ∙ check-passed (c .before .before .before .before .before .before .before .before .before .before .before .before .before .before .before .before .before .stale .result) (sym (c .before .before .before .before .before .before .before .before .before .before .before .before .before .before .before .before .fail-if2 .ensures) ∙ c .before .before .before .before .before .before .before .before .before .before .before .before .before .before .enum-told4 .given .1)) (sym (c .before .before .before .before .before .before .before .before .before .before .before .before .before .no-room .ensures) ∙ check-passed (c .before .before .before .before .before .before .before .before .before .before .before .before .before .no-room .result) (sym (c .before .before .before .before .before .before .before .before .before .before .before .before .fail-if3 .ensures) ∙ c .before .before .before .before .before .before .before .before .before .before .enum-told6 .given .1)))
 
 pub receive-spec : {M : Type 1} → statement M
 receive-spec =
@@ -301,7 +300,7 @@ receive-spec =
     place-requires
     heard-of-requires
     anew-requires
-    mul-t39
+    mul-t32
     element-set-from-t
     grown-requires
     becomes-live-requires

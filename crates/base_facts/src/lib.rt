@@ -4,6 +4,9 @@ ghost use mathlib.Core.Bool.{_||_};
 ghost use Prim.Native.Nat.{_-_, min};
 ghost use Rattle.base_facts.specs.Facts.{checkOf, paddedOf};
 
+// The algorithm agility, 00-80-C2-01.
+pub const AGILITY: u32 = 0x0080_c201;
+
 pub enum Check {
     Passed,
     Failed,

@@ -10,9 +10,13 @@ use Rattle.frame_places.specs.declared.Spot.{Spot}
 use Rattle.frame_places.specs.declared.Places.{Places}
 use Rattle.frame_walk.specs.List.{entriesIn}
 
+-- "one of the last four sent"
+abbrev pub window : ℕ
+window = 4
+
 -- "Recent (here): not 0, not above the last sent, and one of the last four sent."
 unfoldable pub isRecent : ℕ → ℕ → Bool
-isRecent mn last = not (eqb mn 0) && (leb mn last && ltb (last - mn) 4)
+isRecent mn last = not (eqb mn 0) && (leb mn last && ltb (last - mn) window)
 
 -- one of the entries has our MI and a recent number
 abbrev pub anyRecent : Mi → ℕ → List Entry → Bool

@@ -1,11 +1,11 @@
 -- Facts 1 to 9 of a received frame.
 use Prim.Native.Nat.{ℕ, min}
 use mathlib.Core.Bool.{Bool, true, false, cond, not}
-use mathlib.Core.List.{List, [], _∷_}
+use mathlib.Core.List.{List, [], _∷_, _++_}
 use lib.ListN.{take}
 use lib.Dec.{eqb}
 use Rattle.base_facts.specs.Facts.{firstOf}
-use Rattle.frame.specs.Basic.{bodyLen, basicLen, fact2, fact3, fact4, fact5, basicFields}
+use Rattle.frame.specs.Basic.{bodyLen, basicLen, basicFields, basicFacts}
 use Rattle.frame.specs.Ours.{fact6, fact7}
 use Rattle.frame.specs.declared.Basic.{Basic}
 use Rattle.frame.specs.declared.BasicRead.{BasicRead}
@@ -43,18 +43,16 @@ abbrev pub placesIn : Walked → Places
 placesIn (walked.End w) = w
 placesIn (walked.Bad at) = noPlaces
 
+-- Facts 1 to 9 in their order; 2 to 5 are those of the Basic set.
 unfoldable pub frameFacts : Participant → ℕ → Bool → List ℕ → List (ℕ × Bool)
 frameFacts p time verdict s =
     (1, fact1 p time)
-    ∷ (2, fact2 s)
-    ∷ (3, fact3 s)
-    ∷ (4, fact4 (bodyLen s))
-    ∷ (5, fact5 (basicLen s) (bodyLen s))
-    ∷ (6, fact6 s (basicIn s) (ownCkn p))
+    ∷ (basicFacts s
+    ++ ((6, fact6 s (basicIn s) (ownCkn p))
     ∷ (7, fact7 (basicIn s))
     ∷ (8, not verdict)
     ∷ (9, isBad (walkIn s))
-    ∷ []
+    ∷ []))
 
 abbrev pub judgedAnswer : ℕ → Basic → Places → Judged
 judgedAnswer n b w = cond (eqb n 0) (Good b w) (Refused n)

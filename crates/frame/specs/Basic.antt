@@ -22,6 +22,10 @@ bodyLen s = beAt s 2 2
 abbrev pub basicLen : List ℕ → ℕ
 basicLen s = getD s 6 0 % 16 * 256 + getD s 7 0
 
+-- "The body is the Basic set, further sets, then the 16-octet ICV": the ICV's place, by the body's length
+abbrev pub icvPlace : ℕ → ℕ
+icvPlace body = 4 + body - 16
+
 -- 2: "under 4 octets, or body length beyond the slice"
 abbrev pub fact2 : List ℕ → Bool
 fact2 s = ltb (length s) 4 || ltb (length s - 4) (bodyLen s)
@@ -58,7 +62,7 @@ basicFields s n body =
       agility = beAt s 32 4;
       size = n - 28;
       next = 8 + paddedOf n;
-      stop = body - 12;
+      stop = icvPlace body;
     }
 
 -- The number of the first fact that holds, 0 if none: the answer with that number, or with the Basic set.

@@ -4,6 +4,7 @@ use mathlib.Core.List.{List, [], _∷_}
 use mathlib.Core.Bool.{Bool, true, not, _&&_}
 use lib.ListN.{length, getD}
 use lib.Dec.{eqb}
+use Rattle.base_facts.specs.Numbers.{agility}
 use Rattle.frame.specs.declared.Basic.{Basic}
 
 -- The octets xs stand at `at`.
@@ -17,4 +18,4 @@ fact6 s b ckn = not (eqb (b .size) (length ckn) && sameAt s 36 ckn)
 
 -- 7: "agility not 00-80-C2-01"
 abbrev pub fact7 : Basic → Bool
-fact7 b = not (eqb (b .agility) 0x0080c201)
+fact7 b = not (eqb (b .agility) agility)

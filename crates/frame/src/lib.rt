@@ -12,7 +12,7 @@ enum Length {
     Short,
 }
 
-// `ckn` is the length of the CKN, which stands at 36; `next` the first further set's place; `stop` the ICV's, where the sets end.
+// `size` is the length of the CKN, which stands at 36; `next` the first further set's place; `stop` the ICV's, 4 + body - 16, where the sets end.
 pub struct Basic {
     pub version: u8,
     pub priority: u8,

@@ -1,12 +1,11 @@
 // Whether a frame is for us: facts 6 and 7.
 use crate::Basic;
+use base_facts::AGILITY;
 use base_facts::Check;
 ghost use mathlib.Core.Path.{_≡_};
 ghost use Prim.Native.Nat.{_<_, _^_};
 ghost use Rattle.base_facts.specs.Facts.{checkOf};
 ghost use Rattle.frame.specs.Ours.{sameAt, fact6, fact7};
-
-pub const AGILITY: u32 = 0x0080_c201;
 
 fn same_at(s: &[u8], at: usize, key: &[u8]) -> bool
     requires { ⌜ at < 2 ^ 63 ⌝ }

@@ -6,20 +6,44 @@ use mathlib.Core.Logic.{_⊎_, inl, inr}
 use mathlib.Core.List.{List}
 use native.Mathlib.Omega.{arith}
 use lib.ListN.{length, getD}
-use lib.Dec.{eqb, ltb}
-use borrow.Author.Tests.{ne-eqb, eqb-true, ltb-false}
+use lib.Dec.{eqb, ltb, leb}
+use borrow.Author.Tests.{ne-eqb, eqb-true, ltb-false, leb-true, le-leb, lt-leb, not-false}
 use Rattle.base_facts.specs.Facts.{paddedOf}
+use Rattle.base_octets.specs.Number.{beAt}
 use Rattle.base_octets.proofs.Laws.{Octets}
 use Rattle.frame_sets.specs.Kinds.{kindAt, typeOf}
-use Rattle.frame_sets.specs.Set.{lenAt, listLen, badBody, badHead, badSet, setFields, setAnswer, headOf, setOf, extentOf}
+use Rattle.frame_sets.specs.Set.{lenAt, isList, allowed, extentOf, fits, unnumbered, badSet, setFields, setAnswer, setOf, allowedOthers, badShape, badHead, headOf, badBody, listLen, badList}
+use Rattle.frame_places.specs.Once.{holds}
 use Rattle.frame_places.specs.declared.Places.{Places}
 use Rattle.frame_sets.specs.declared.Set.{Set}
 use Rattle.frame_sets.specs.declared.SetRead.the-variants.{Good, Bad}
 use Rattle.frame_sets.specs.declared.kinds.Kind.{Kind}
 
-not-not : (b : Bool) → not (not b) ≡ b
-not-not true = refl
-not-not false = refl
+pub or-false : (a b : Bool) → a || b ≡ false → (a ≡ false) × (b ≡ false)
+or-false false b e = (refl, e)
+or-false true b e = absurd (true≢false e)
+
+or-none : (a : Bool) → a || false ≡ a
+or-none true = refl
+or-none false = refl
+
+or-true : (a : Bool) → a || true ≡ true
+or-true true = refl
+or-true false = refl
+
+or-with : (a b c : Bool) → a || (b || c) ≡ (a || b) || c
+or-with true b c = refl
+or-with false b c = refl
+
+or-swap : (a b : Bool) → a || b ≡ b || a
+or-swap true b = sym (or-true b)
+or-swap false b = sym (or-none b)
+
+by-cases : {A : Type 0} (b : Bool) → (b ≡ true → A) → (b ≡ false → A) → A
+by-cases true h k = h refl
+by-cases false h k = k refl
+
+-- ---- what a body of type 3 or 4 breaks
 
 pub use-good : (len kn : ℕ) → (len ≡ 0) ⊎ (len ≡ 40) → badBody 3 len kn ≡ false
 unfolding badBody
@@ -28,21 +52,81 @@ use-good len kn (inr e) = rw e
 
 pub use-bad : (len kn : ℕ) → ((len ≡ 0) ⊎ (len ≡ 40) → ⊥) → badBody 3 len kn ≡ true
 unfolding badBody
-use-bad len kn h = simp (ne-eqb len 0 (λ e. h (inl e)), ne-eqb len 40 (λ e. h (inr e)))
+use-bad len kn h = rw (ne-eqb len 0 (λ e. h (inl e)), ne-eqb len 40 (λ e. h (inr e)))
 
 pub sak-some : (len kn : ℕ) → (len ≡ 28) ⊎ ((len ≡ 36) ⊎ (len ≡ 52)) → badBody 4 len kn ≡ eqb kn 0
 unfolding badBody
-sak-some len kn (inl e) = rw e (not-not (eqb kn 0))
-sak-some len kn (inr (inl e)) = rw e (not-not (eqb kn 0))
-sak-some len kn (inr (inr e)) = rw e (not-not (eqb kn 0))
+sak-some len kn (inl e) = rw e
+sak-some len kn (inr (inl e)) = rw e
+sak-some len kn (inr (inr e)) = rw e
 
 pub sak-bad : (len kn : ℕ) → (len ≡ 0 → ⊥) → ((len ≡ 28) ⊎ ((len ≡ 36) ⊎ (len ≡ 52)) → ⊥) → badBody 4 len kn ≡ true
 unfolding badBody
-sak-bad len kn z h = simp (ne-eqb len 0 z, ne-eqb len 28 (λ e. h (inl e)), ne-eqb len 36 (λ e. h (inr (inl e))), ne-eqb len 52 (λ e. h (inr (inr e))))
+sak-bad len kn z h = rw (ne-eqb len 0 z, ne-eqb len 28 (λ e. h (inl e)), ne-eqb len 36 (λ e. h (inr (inl e))), ne-eqb len 52 (λ e. h (inr (inr e))))
 
-pub or-false : (a b : Bool) → a || b ≡ false → (a ≡ false) × (b ≡ false)
-or-false false b e = (refl, e)
-or-false true b e = absurd (true≢false e)
+-- ---- the room of a set
+
+-- a set takes four octets at least
+cond-least : (t : Bool) (n : ℕ) → 4 ≤ n → 4 ≤ cond t 4 n
+cond-least true n h = omega arith
+cond-least false n h = h
+
+pub extent-least : (t len : ℕ) → 4 ≤ extentOf t len
+unfolding extentOf
+extent-least t len = cond-least (eqb t 255) (4 + paddedOf len) (omega arith)
+
+cond-most : (t : Bool) (n : ℕ) → 4 ≤ n → cond t 4 n ≤ n
+cond-most true n h = h
+cond-most false n h = omega arith
+
+pub extent-most : (t len : ℕ) → extentOf t len ≤ 4 + paddedOf len
+unfolding extentOf
+extent-most t len = cond-most (eqb t 255) (4 + paddedOf len) (omega arith)
+
+fits-room : (b : Bool) (x room : ℕ) → cond b (eqb room x) (leb x room) ≡ true → x ≤ room
+fits-room true x room e = omega (arith, eqb-true room x e)
+fits-room false x room e = leb-true x room e
+
+fits-not : (b : Bool) (x room : ℕ) → room < x → cond b (eqb room x) (leb x room) ≡ false
+fits-not true x room h = ne-eqb room x (omega arith)
+fits-not false x room h = lt-leb x room h
+
+module _ (t len room kn : ℕ) (seen : Places) where
+  -- no set stands where not even a header fits
+  pub shape-no-room : room < 4 → badShape t len room kn seen ≡ true
+  unfolding badShape
+  shape-no-room h = let x = extent-least t len in rw (fits-not (eqb t 255) (extentOf t len) room (omega arith))
+
+  module _ (other : t ≡ 255 → ⊥) where
+    pub shape-tight : room < 4 + paddedOf len → badShape t len room kn seen ≡ true
+    unfolding badShape extentOf
+    shape-tight h = rw (ne-eqb t 255 other, lt-leb (4 + paddedOf len) room h)
+
+    -- the lengths but the lists', and the key number, are of types 3 and 4
+    body-rules : not (allowedOthers t len) || unnumbered t len kn ≡ badBody t len kn
+    unfolding badBody
+    body-rules =
+        by-cases (eqb t 1) (λ e. rw (eqb-true t 1 e)) (λ a.
+        by-cases (eqb t 2) (λ e. rw (eqb-true t 2 e)) (λ b.
+        by-cases (eqb t 3) (λ e. rw (eqb-true t 3 e)) (λ c.
+        by-cases (eqb t 4) (λ e. rw (eqb-true t 4 e)) (λ d. rw (a, b, c, d, ne-eqb t 255 other)))))
+
+    pub shape-body : 4 + paddedOf len ≤ room → badShape t len room kn seen ≡ badBody t len kn || holds seen t
+    unfolding badShape extentOf
+    shape-body h =
+        let e : fits t len room ≡ true = rw (ne-eqb t 255 other) (le-leb (4 + paddedOf len) room h) in
+        ap (λ (b : Bool). not b || (not (allowedOthers t len) || (unnumbered t len kn || holds seen t))) e
+        ∙ or-with (not (allowedOthers t len)) (unnumbered t len kn) (holds seen t)
+        ∙ ap (λ (b : Bool). b || holds seen t) body-rules
+
+-- type 255
+pub shape-icv : (room kn : ℕ) (seen : Places) → badShape 255 16 room kn seen ≡ not (eqb room 4)
+unfolding badShape extentOf holds
+shape-icv room kn seen = or-none (not (eqb room 4))
+
+pub shape-icv-length : (len room kn : ℕ) (seen : Places) → (len ≡ 16 → ⊥) → badShape 255 len room kn seen ≡ true
+unfolding badShape extentOf
+shape-icv-length len room kn seen h = rw (ne-eqb len 16 h) (or-true (not (eqb room 4)))
 
 pub answer-bad : (t : Bool) (v : Set) → setAnswer t v ≡ Bad → t ≡ true
 answer-bad true v e = refl
@@ -61,12 +145,18 @@ pub head-good : (s : List ℕ) (at stop : ℕ) (seen : Places) (v : Set) → hea
 unfolding headOf
 head-good s at stop seen v e = answer-good (badHead s at stop seen) (setFields s at) v e
 
+pub head-shape : (s : List ℕ) (at stop : ℕ) (seen : Places) → badHead s at stop seen ≡ ltb (length s) stop || badShape (getD s at 0) (lenAt s at) (stop - at) (beAt s (at + 4) 4) seen
+unfolding badHead badShape
+head-shape s at stop seen = refl
+
 pub head-room : (s : List ℕ) (at stop : ℕ) (seen : Places) → badHead s at stop seen ≡ false → (stop ≤ length s) × (at + 4 ≤ stop)
 unfolding badHead
 head-room s at stop seen e =
     let a = or-false (ltb (length s) stop) _ e in
-    let b = or-false (ltb (stop - at) 4) _ (a .1) in
-    let room : 4 ≤ stop - at = ltb-false (stop - at) 4 (b .0) in
+    let x = extentOf (getD s at 0) (lenAt s at) in
+    let least = extent-least (getD s at 0) (lenAt s at) in
+    let b = not-false (fits (getD s at 0) (lenAt s at) (stop - at)) (or-false _ _ (a .1) .0) in
+    let room : x ≤ stop - at = fits-room (eqb (getD s at 0) 255) x (stop - at) b in
     (ltb-false (length s) stop (a .0), omega arith)
 
 -- the kind that is delivered has the type that stands in the frame
@@ -97,37 +187,35 @@ pub len-lt : (s : List ℕ) (at : ℕ) → Octets s → lenAt s at < 4096
 unfolding lenAt
 len-lt s at h = omega (arith, h (at + 3) .fits)
 
--- a set takes four octets at least
-cond-least : (t : Bool) (n : ℕ) → 4 ≤ n → 4 ≤ cond t 4 n
-cond-least true n h = omega arith
-cond-least false n h = h
+-- ---- the code's way is the paper's: the rule on the lists' lengths after the others
 
-pub extent-least : (t len : ℕ) → 4 ≤ extentOf t len
-unfolding extentOf
-extent-least t len = cond-least (eqb t 255) (4 + paddedOf len) (omega arith)
+lists-apart : (b x : Bool) (len : ℕ) → not (cond b (eqb (len % 16) 0) x) ≡ not (b || cond b (eqb (len % 16) 0) x) || not (eqb (cond b len 0 % 16) 0)
+lists-apart true x len = refl
+lists-apart false x len = sym (or-none (not x))
 
-cond-most : (t : Bool) (n : ℕ) → 4 ≤ n → cond t 4 n ≤ n
-cond-most true n h = h
-cond-most false n h = omega arith
-
-pub extent-most : (t len : ℕ) → extentOf t len ≤ 4 + paddedOf len
-unfolding extentOf
-extent-most t len = cond-most (eqb t 255) (4 + paddedOf len) (omega arith)
-
--- ---- the rule on the lists' lengths, beside the others
+or-last : (a f b l w : Bool) → a || (f || ((b || l) || w)) ≡ (a || (f || (b || w))) || l
+or-last true f b l w = refl
+or-last false true b l w = refl
+or-last false false true l w = refl
+or-last false false false l w = or-swap l w
 
 module _ (s : List ℕ) (at stop : ℕ) (seen : Places) where
+  pub two-stages : badSet s at stop seen ≡ badHead s at stop seen || badList s at
+  unfolding badSet badHead listLen
+  two-stages =
+      let t = getD s at 0 in
+      let len = lenAt s at in
+      rw (lists-apart (isList t) _ len)
+      (or-last (ltb (length s) stop) (not (fits t len (stop - at))) (not (allowedOthers t len)) (badList s at) (unnumbered t len (beAt s (at + 4) 4) || holds seen t))
+
   pub bad-of-head : badHead s at stop seen ≡ true → badSet s at stop seen ≡ true
-  unfolding badSet
-  bad-of-head e = rw e
+  bad-of-head e = rw (two-stages, e)
 
   pub bad-of-list : badHead s at stop seen ≡ false → (listLen (getD s at 0) (lenAt s at) % 16 ≡ 0 → ⊥) → badSet s at stop seen ≡ true
-  unfolding badSet
-  bad-of-list e n = rw (e, ne-eqb _ _ n)
+  bad-of-list e n = rw (two-stages, e, ne-eqb _ _ n)
 
   pub not-bad : badHead s at stop seen ≡ false → listLen (getD s at 0) (lenAt s at) % 16 ≡ 0 → badSet s at stop seen ≡ false
-  unfolding badSet
-  not-bad e n = rw (e, n)
+  not-bad e n = rw (two-stages, e, n)
 
   pub set-bad : headOf s at stop seen ≡ Bad → setOf s at stop seen ≡ Bad
   unfolding setOf
@@ -157,5 +245,13 @@ module _ (s : List ℕ) (at stop : ℕ) (seen : Places) where
   set-read v e = answer-good (badSet s at stop seen) (setFields s at) v e
 
   pub good-head : badSet s at stop seen ≡ false → badHead s at stop seen ≡ false
+  good-head e = or-false (badHead s at stop seen) _ (sym two-stages ∙ e) .0
+
+  -- "The key number (KN) is not zero in a type 4 body that isn't empty."
+  pub good-numbered : badSet s at stop seen ≡ false → getD s at 0 ≡ 4 → eqb (lenAt s at) 0 ≡ false → eqb (beAt s (at + 4) 4) 0 ≡ false
   unfolding badSet
-  good-head e = or-false (badHead s at stop seen) _ e .0
+  good-numbered e t z =
+      let a = or-false (ltb (length s) stop) _ e .1 in
+      let b = or-false (not (allowed (getD s at 0) (lenAt s at))) _ (or-false (not (fits (getD s at 0) (lenAt s at) (stop - at))) _ a .1) .1 in
+      let c = or-false (unnumbered (getD s at 0) (lenAt s at) (beAt s (at + 4) 4)) _ b .0 in
+      rw (t, z) at c

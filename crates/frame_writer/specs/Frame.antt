@@ -5,6 +5,7 @@ use mathlib.Core.Bool.{Bool, cond}
 use lib.ListN.{length, take, replicate}
 use lib.Dec.{ltb, eqb}
 use Rattle.base_facts.specs.Facts.{paddedOf}
+use Rattle.base_facts.specs.Numbers.{agility}
 use Rattle.base_octets.specs.Number.{beOf}
 use Rattle.base_octets.specs.Run.{runsOf}
 use Rattle.base_mi.specs.Mi.{miOctets}
@@ -38,7 +39,7 @@ senderFlags x = record { server = x .server; desired = x .desired; capability = 
 unfoldable pub fixedOctets : Sender → ℕ → List ℕ
 fixedOctets x n =
     1 ∷ x .priority ∷ octetOf (senderFlags x) ∷ (28 + n)
-    ∷ (beOf 8 (x .sci) ++ (miOctets (x .mi) ++ (beOf 4 (x .mn) ++ beOf 4 0x0080c201)))
+    ∷ (beOf 8 (x .sci) ++ (miOctets (x .mi) ++ (beOf 4 (x .mn) ++ beOf 4 agility)))
 
 -- "every set is padded to a multiple of 4. Padding and reserved bits are [..] zero on writing."
 unfoldable pub cknOctets : List ℕ → List ℕ

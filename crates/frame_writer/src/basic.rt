@@ -1,5 +1,6 @@
 // The EAPOL header and the Basic set.
 use crate::Sender;
+use base_facts::AGILITY;
 use base_octets::run;
 use base_packed::basic::Flags;
 ghost use mathlib.Core.Path.{_≡_};
@@ -34,7 +35,7 @@ fn put_fixed(out: &mut [u8], x: Sender, n: u8)
     base_octets::put_u64(out, 8, x.sci);
     base_mi::put_mi(out, 16, m);
     base_octets::put_u32(out, 28, x.mn);
-    base_octets::put_u32(out, 32, 0x0080_c201);
+    base_octets::put_u32(out, 32, AGILITY);
 }
 
 // The CKN with its padding, at 36.

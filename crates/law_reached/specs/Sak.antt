@@ -12,9 +12,9 @@ use Rattle.base_octets.specs.Number.{beAt}
 use Rattle.base_octets.proofs.Laws.{Octets, beAt-lt}
 use Rattle.frame_sets.specs.Kinds.{sakAt, sakIn}
 use Rattle.frame_places.specs.Once.{noPlaces, placesWith}
-use Rattle.frame_sets.specs.Set.{lenAt, badBody, badShape, badHead, badSet}
+use Rattle.frame_sets.specs.Set.{lenAt, badSet}
 use Rattle.frame_places.specs.declared.Places.{Places}
-use Rattle.frame_sets.proofs.Laws.{or-false, head-room, good-head}
+use Rattle.frame_sets.proofs.Laws.{head-room, good-head, good-numbered}
 use Rattle.frame_walk.specs.Walk.{nextAt, placesAfter, walkGo, walkFrom, walkOf}
 use Rattle.law_lists.specs.Laws.{by-cases, clash, second-of}
 use Rattle.call_judge.specs.Judge.{basicIn, placesIn}
@@ -28,29 +28,14 @@ pub record Numbered (s : List ℕ) (place : ℕ) : Type 0 where
 abbrev Found : List ℕ → Places → Type 0
 Found s w = w .sak .present ≡ true → eqb (w .sak .len) 0 ≡ false → Numbered s (w .sak .place)
 
--- what the body's rule says of type 4
-body-numbered : (len kn : ℕ) → badBody 4 len kn ≡ false → eqb len 0 ≡ false → eqb kn 0 ≡ false
-unfolding badBody
-body-numbered len kn e z =
-    let b = not-false (eqb len 0 || ((eqb len 28 || (eqb len 36 || eqb len 52)) && not (eqb kn 0))) e in
-    not-true (eqb kn 0) (second-of (eqb len 28 || (eqb len 36 || eqb len 52)) (not (eqb kn 0)) (rw z at b))
-
 module _ (s : List ℕ) (stop : ℕ) where
-  -- a set of type 4 that is not bad
-  good-body : (at : ℕ) (p : Places) → badSet s at stop p ≡ false → getD s at 0 ≡ 4 → badBody 4 (lenAt s at) (beAt s (at + 4) 4) ≡ false
-  unfolding badHead badShape
-  good-body at p e t =
-      let a = or-false (ltb (length s) stop) _ (good-head s at stop p e) in
-      let b = rw t at (or-false (ltb (stop - at) 4) _ (a .1) .1) in
-      or-false (badBody 4 (lenAt s at) (beAt s (at + 4) 4)) _ (or-false (ltb (stop - at) (4 + paddedOf (lenAt s at))) _ b .1) .0
-
   found-next : (at : ℕ) (p : Places) → badSet s at stop p ≡ false → Found s p → Found s (placesAfter s at p)
   unfolding placesWith
   found-next at p e f =
       by-cases (eqb (getD s at 0) 4)
       (λ t. rw t (λ present z.
       let room = head-room s at stop p (good-head s at stop p e) in
-      record { inside = omega (arith, room .0, room .1); kn = body-numbered (lenAt s at) _ (good-body at p e (eqb-true (getD s at 0) 4 t)) z }))
+      record { inside = omega (arith, room .0, room .1); kn = good-numbered s at stop p e (eqb-true (getD s at 0) 4 t) z }))
       (λ t. rw t f)
 
   found-walk : (fuel at : ℕ) (p : Places) → Found s p → Found s (placesIn (walkGo fuel s stop at p))

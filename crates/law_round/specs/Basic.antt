@@ -8,6 +8,7 @@ use lib.ListN.{length, getD, length-append}
 use lib.Dec.{lit<}
 use borrow.Author.Tests.{le-ltb}
 use Rattle.base_facts.specs.Facts.{paddedOf}
+use Rattle.base_facts.specs.Numbers.{agility}
 use Rattle.base_octets.specs.Number.{beAt, beOf}
 use Rattle.base_mi.specs.Mi.{miAt, miOctets}
 use Rattle.base_octets.proofs.Laws.{length-beOf}
@@ -17,7 +18,7 @@ use Rattle.base_mi.proofs.Laws.{mi-stands}
 use Rattle.base_packed.specs.Basic.{flagsOf, octetOf}
 use Rattle.base_packed.specs.declared.basic.Flags.{Flags}
 use Rattle.base_packed.proofs.Laws.{basic-round}
-use Rattle.frame.specs.Basic.{bodyLen, basicLen, fact2, fact3, fact4, fact5, basicFields, basicOf}
+use Rattle.frame.specs.Basic.{bodyLen, basicLen, icvPlace, fact2, fact3, fact4, fact5, basicFields, basicOf}
 use Rattle.frame.specs.declared.BasicRead.the-variants.{Read}
 use Rattle.frame_writer.specs.Frame.{headerOctets, senderFlags, fixedOctets}
 use Rattle.frame_writer.specs.declared.Sender.{Sender}
@@ -33,7 +34,7 @@ module _ (x : Sender) (b n : ℕ) (q : List ℕ) where
   four = 1 ∷ x .priority ∷ octetOf (senderFlags x) ∷ (28 + n) ∷ []
 
   abbrev rest : List ℕ
-  rest = beOf 8 (x .sci) ++ (miOctets (x .mi) ++ (beOf 4 (x .mn) ++ beOf 4 0x0080c201))
+  rest = beOf 8 (x .sci) ++ (miOctets (x .mi) ++ (beOf 4 (x .mn) ++ beOf 4 agility))
 
   fields : Stands begun rest 8
   unfolding fixedOctets
@@ -46,16 +47,16 @@ module _ (x : Sender) (b n : ℕ) (q : List ℕ) where
       }
 
   abbrev afterSci : List ℕ
-  afterSci = miOctets (x .mi) ++ (beOf 4 (x .mn) ++ beOf 4 0x0080c201)
+  afterSci = miOctets (x .mi) ++ (beOf 4 (x .mn) ++ beOf 4 agility)
 
   afterSciAt : Stands begun afterSci 16
   afterSciAt = second begun (beOf 8 (x .sci)) afterSci 8 8 (length-beOf 8 (x .sci)) fields
 
-  afterMi : Stands begun (beOf 4 (x .mn) ++ beOf 4 0x0080c201) 28
-  afterMi = second begun (miOctets (x .mi)) (beOf 4 (x .mn) ++ beOf 4 0x0080c201) 16 12 (length-mi (x .mi)) afterSciAt
+  afterMi : Stands begun (beOf 4 (x .mn) ++ beOf 4 agility) 28
+  afterMi = second begun (miOctets (x .mi)) (beOf 4 (x .mn) ++ beOf 4 agility) 16 12 (length-mi (x .mi)) afterSciAt
 
-  afterMn : Stands begun (beOf 4 0x0080c201) 32
-  afterMn = second begun (beOf 4 (x .mn)) (beOf 4 0x0080c201) 28 4 (length-beOf 4 (x .mn)) afterMi
+  afterMn : Stands begun (beOf 4 agility) 32
+  afterMn = second begun (beOf 4 (x .mn)) (beOf 4 agility) 28 4 (length-beOf 4 (x .mn)) afterMi
 
   body-at : b < 2 ^ 16 → beAt begun 2 2 ≡ b
   unfolding headerOctets
@@ -98,10 +99,10 @@ basic-read x b q r hb fit m4 room =
       desired = (ap flagsOf (o .4) ∙ fl) i .desired;
       capability = (ap flagsOf (o .4) ∙ fl) i .capability;
       sci = number-stands f 8 (x .sci) 8 (r .sci) (first f (beOf 8 (x .sci)) (afterSci x b n q) 8 (fields x b n q)) i;
-      mi = mi-stands f (x .mi) 16 (r .mi) (first f (miOctets (x .mi)) (beOf 4 (x .mn) ++ beOf 4 0x0080c201) 16 (afterSciAt x b n q)) i;
-      mn = number-stands f 4 (x .mn) 28 (r .mn) (first f (beOf 4 (x .mn)) (beOf 4 0x0080c201) 28 (afterMi x b n q)) i;
-      agility = number-stands f 4 0x0080c201 32 (lit< tt) (afterMn x b n q) i;
+      mi = mi-stands f (x .mi) 16 (r .mi) (first f (miOctets (x .mi)) (beOf 4 (x .mn) ++ beOf 4 agility) 16 (afterSciAt x b n q)) i;
+      mn = number-stands f 4 (x .mn) 28 (r .mn) (first f (beOf 4 (x .mn)) (beOf 4 agility) 28 (afterMi x b n q)) i;
+      agility = number-stands f 4 agility 32 (lit< tt) (afterMn x b n q) i;
       size = ckn-len n i;
       next = next-place n i;
-      stop = b - 12;
+      stop = icvPlace b;
     }))

@@ -9,6 +9,8 @@ use Rattle.base_facts.specs.Facts.{paddedOf}
 use Rattle.base_mi.specs.Entry.{entriesOf}
 use Rattle.base_mi.specs.declared.entry.Entry.{Entry}
 use Rattle.base_mi.proofs.Laws.{Fitting}
+use Rattle.base_facts.specs.Numbers.{agility}
+use Rattle.frame.specs.Basic.{icvPlace}
 use Rattle.frame.specs.declared.Basic.{Basic}
 use Rattle.frame_places.specs.Once.{absentSpot, spotAt}
 use Rattle.frame_places.specs.declared.Spot.{Spot}
@@ -69,10 +71,10 @@ basicWritten x b =
       sci = x .sci;
       mi = x .mi;
       mn = x .mn;
-      agility = 0x0080c201;
+      agility = agility;
       size = x .size;
       next = 36 + paddedOf (x .size);
-      stop = b - 12;
+      stop = icvPlace b;
     }
 
 -- where each set begins, if the frame has it

@@ -16,12 +16,12 @@ use Rattle.base_octets.proofs.Laws.{length-beOf}
 use Rattle.base_octets.proofs.Fields.{Stands, first, second, octet-stands, part-stands}
 use Rattle.base_packed.specs.Used.{usedOctet}
 use Rattle.base_packed.specs.Sak.{sakOctet}
-use Rattle.frame.specs.Basic.{basicOf}
+use Rattle.frame.specs.Basic.{icvPlace, basicOf}
 use Rattle.frame.specs.Ours.{sameAt, fact6, fact7}
 use Rattle.frame.specs.declared.BasicRead.the-variants.{Read}
 use Rattle.frame_sets.specs.Kinds.{sakUseAt, sakAt}
 use Rattle.frame_places.specs.Once.{absentSpot, noPlaces, holds, placesWith}
-use Rattle.frame_sets.specs.Set.{listLen, badBody}
+use Rattle.frame_sets.specs.Set.{isList, allowed, unnumbered}
 use Rattle.frame_places.specs.declared.Spot.{Spot}
 use Rattle.frame_places.specs.declared.Places.{Places}
 use Rattle.frame_walk.specs.List.{entriesFrom, listAt}
@@ -71,17 +71,9 @@ with3 a b c = record { live = a; potential = b; «sak_use» = c; sak = absentSpo
 abbrev with4 : Spot → Spot → Spot → Spot → Places
 with4 a b c d = record { live = a; potential = b; «sak_use» = c; sak = d }
 
-use-body : (kn : ℕ) → badBody 3 40 kn ≡ false
-unfolding badBody
-use-body kn = refl
-
-list-body : (t n kn : ℕ) → (t ≡ 3 → ⊥) → (t ≡ 4 → ⊥) → badBody t n kn ≡ false
-unfolding badBody
-list-body t n kn h k = rw (ne-eqb t 3 h, ne-eqb t 4 k)
-
-sak-body : (kn : ℕ) → 0 < kn → badBody 4 28 kn ≡ false
-unfolding badBody
-sak-body kn h = let n : kn ≡ 0 → ⊥ = omega arith in rw (ne-eqb kn 0 n)
+-- "The key number (KN) is not zero": in a Distributed SAK that is sent
+sak-numbered : (kn : ℕ) → 0 < kn → unnumbered 4 28 kn ≡ false
+sak-numbered kn h = let n : kn ≡ 0 → ⊥ = omega arith in ne-eqb kn 0 n
 
 -- octets that stand in a frame are found the same
 same-stands : (g xs : List ℕ) (at : ℕ) → Stands g xs at → sameAt g at xs ≡ true
@@ -155,8 +147,8 @@ module _ (m : Mkpdu) (rest : List ℕ) (r : Ranged m) where
   sak-there : m .distributed ≡ true → Stands f (sakSet (m .sak)) (sakPlace m)
   sak-there e = there f (sakSet (m .sak)) (sakPlace m) (m .distributed) e sak-stand
 
-  sak-good : m .distributed ≡ true → badBody 4 28 (beAt f (sakPlace m + 4) 4) ≡ false
-  sak-good e = rw (kn-stands f (m .sak) (sakPlace m) (r .sak) (sak-there e)) (sak-body (m .sak .kn) (r .numbered e))
+  sak-good : m .distributed ≡ true → unnumbered 4 28 (beAt f (sakPlace m + 4) 4) ≡ false
+  sak-good e = rw (kn-stands f (m .sak) (sakPlace m) (r .sak) (sak-there e)) (sak-numbered (m .sak .kn) (r .numbered e))
 
   -- facts 2 to 5 pass, and the Basic set is read as it was written
   pub basic-back : basicOf f ≡ Read (basicWritten (m .sender) b)
@@ -188,25 +180,25 @@ module _ (m : Mkpdu) (rest : List ℕ) (r : Ranged m) where
   agility-back = refl
 
   -- the walk comes to the end, and tells where each set stands
-  stop-fits : b - 12 ≤ length f
+  stop-fits : icvPlace b ≤ length f
   stop-fits = omega (arith, length-append (frameOf m) rest, length-frame m)
 
-  ends : sakPlace m + length (sakPart (m .distributed) (m .sak)) ≡ b - 12
+  ends : sakPlace m + length (sakPart (m .distributed) (m .sak)) ≡ icvPlace b
   ends = omega (arith, length-body m, basic-size)
 
-  list-walk : (t : ℕ) (es : List Entry) (at : ℕ) (p : Places) (after : Spot → Places) → (t ≡ 255 → ⊥) → (t ≡ 3 → ⊥) → (t ≡ 4 → ⊥) → length es ≤ 16
-      → holds p t ≡ false → listLen t (length es * 16) ≡ length es * 16 → after absentSpot ≡ p → ((x n : ℕ) → placesWith p t x n ≡ after (spotIf true x n))
-      → Stands f (listSet t es) at → at + length (listSet t es) ≤ b - 12
-      → walkFrom f (b - 12) at p ≡ walkFrom f (b - 12) (at + length (listSet t es)) (after (listSpot es at))
-  list-walk t es at p after k h3 h4 few once listed absent present s fit =
+  list-walk : (t : ℕ) (es : List Entry) (at : ℕ) (p : Places) (after : Spot → Places) → (t ≡ 255 → ⊥) → isList t ≡ true → eqb t 4 ≡ false → length es ≤ 16
+      → holds p t ≡ false → after absentSpot ≡ p → ((x n : ℕ) → placesWith p t x n ≡ after (spotIf true x n))
+      → Stands f (listSet t es) at → at + length (listSet t es) ≤ icvPlace b
+      → walkFrom f (icvPlace b) at p ≡ walkFrom f (icvPlace b) (at + length (listSet t es)) (after (listSpot es at))
+  list-walk t es at p after k list h4 few once absent present s fit =
       let e = as-part t es in
-      let n : listLen t (length es * 16) % 16 ≡ 0 = ap (λ (x : ℕ). x % 16) listed ∙ omega arith in
-      walk-part f t 0 (length es * 16) (listOctets es) at (b - 12) p after k (omega arith) (omega arith) (length-list es) stop-fits once n absent present
-      (not (eqb (length es) 0)) (rw e at s) (rw e at fit) (λ _. list-body t (length es * 16) (beAt f (at + 4) 4) h3 h4)
-      ∙ ap (λ (l : List ℕ). walkFrom f (b - 12) (at + length l) (after (listSpot es at))) (sym e)
+      let n : length es * 16 % 16 ≡ 0 = omega arith in
+      walk-part f t 0 (length es * 16) (listOctets es) at (icvPlace b) p after k (omega arith) (omega arith) (length-list es) stop-fits (rw (list, n)) once absent present
+      (not (eqb (length es) 0)) (rw e at s) (rw e at fit) (λ _. rw h4)
+      ∙ ap (λ (l : List ℕ). walkFrom f (icvPlace b) (at + length l) (after (listSpot es at))) (sym e)
 
-  pub walk-back : walkOf f (livePlace m) (b - 12) ≡ End (placesWritten m)
-  unfolding walkOf placesWith holds listLen useSet sakSet
+  pub walk-back : walkOf f (livePlace m) (icvPlace b) ≡ End (placesWritten m)
+  unfolding walkOf placesWith holds useSet sakSet
   walk-back =
       let l1 = length (listSet 1 live) in
       let l2 = length (listSet 2 potential) in
@@ -219,15 +211,15 @@ module _ (m : Mkpdu) (rest : List ℕ) (r : Ranged m) where
       let g = spotIf (m .distributed) (sakPlace m) 28 in
       let u = m .usage in
       let k = m .sak in
-      list-walk 1 live (livePlace m) noPlaces with1 (omega arith) (omega arith) (omega arith) (entriesOf-le (m .live)) refl refl refl (λ x n. refl) live-stands (omega arith)
-      ∙ list-walk 2 potential (potentialPlace m) (with1 a) (with2 a) (omega arith) (omega arith) (omega arith) (entriesOf-le (m .potential)) refl refl refl (λ x n. refl) potential-stands (omega arith)
-      ∙ walk-part f 3 (usedOctet (record { latest = keyFlags (u .latest); old = keyFlags (u .old) })) 40 (keyOctets (u .latest) ++ keyOctets (u .old)) (usePlace m) (b - 12) (with2 a c) (with3 a c)
+      list-walk 1 live (livePlace m) noPlaces with1 (omega arith) refl refl (entriesOf-le (m .live)) refl refl (λ x n. refl) live-stands (omega arith)
+      ∙ list-walk 2 potential (potentialPlace m) (with1 a) (with2 a) (omega arith) refl refl (entriesOf-le (m .potential)) refl refl (λ x n. refl) potential-stands (omega arith)
+      ∙ walk-part f 3 (usedOctet (record { latest = keyFlags (u .latest); old = keyFlags (u .old) })) 40 (keyOctets (u .latest) ++ keyOctets (u .old)) (usePlace m) (icvPlace b) (with2 a c) (with3 a c)
       (omega arith) (lit< tt) refl (length-append (keyOctets (u .latest)) (keyOctets (u .old)) ∙ omega (arith, length-key (u .latest), length-key (u .old))) stop-fits refl refl refl (λ x n. refl)
-      (m .used) use-stand (omega arith) (λ _. use-body _)
-      ∙ walk-part f 4 (sakOctet (record { an = k .an; confidentiality = k .confidentiality })) 28 (beOf 4 (k .kn) ++ k .wrapped) (sakPlace m) (b - 12) (with3 a c d) (with4 a c d)
+      (m .used) use-stand (omega arith) (λ _. refl)
+      ∙ walk-part f 4 (sakOctet (record { an = k .an; confidentiality = k .confidentiality })) 28 (beOf 4 (k .kn) ++ k .wrapped) (sakPlace m) (icvPlace b) (with3 a c d) (with4 a c d)
       (omega arith) (lit< tt) refl (length-append (beOf 4 (k .kn)) (k .wrapped) ∙ omega (arith, length-beOf 4 (k .kn), r .sak .wrapped)) stop-fits refl refl refl (λ x n. refl)
       (m .distributed) sak-stand (omega arith) sak-good
-      ∙ walk-end f (b - 12) (sakPlace m + l4) (with4 a c d g) (omega arith)
+      ∙ walk-end f (icvPlace b) (sakPlace m + l4) (with4 a c d g) (omega arith)
 
   -- every entry of both lists comes back, in order
   pub live-back : listAt f (placesWritten m .live .place) (placesWritten m .live .len) ≡ live

@@ -7,7 +7,7 @@ use native.Mathlib.Nat.{add-zero}
 use native.Mathlib.Omega.{arith}
 use lib.ListN.{length, getD, length-append}
 use lib.Dec.{eqb, ltb, lit<}
-use borrow.Author.Tests.{le-ltb, ne-eqb, eqb-false, eqb-true}
+use borrow.Author.Tests.{le-ltb, le-leb, ne-eqb}
 use Rattle.base_facts.specs.Facts.{paddedOf}
 use Rattle.base_octets.specs.Number.{beAt, beOf}
 use Rattle.base_mi.specs.Mi.{miAt, miOctets}
@@ -25,7 +25,7 @@ use Rattle.base_packed.specs.declared.sak.SakFlags.{SakFlags}
 use Rattle.base_packed.proofs.Laws.{used-round, sak-round}
 use Rattle.frame_sets.specs.Kinds.{keyUseAt, sakUseAt, sakAt}
 use Rattle.frame_places.specs.Once.{absentSpot, spotAt, holds, placesWith}
-use Rattle.frame_sets.specs.Set.{lenAt, listLen, badBody, badShape, badHead, badSet, extentOf}
+use Rattle.frame_sets.specs.Set.{lenAt, allowed, extentOf, unnumbered, badSet}
 use Rattle.frame_places.specs.declared.Spot.{Spot}
 use Rattle.frame_places.specs.declared.Places.{Places}
 use Rattle.frame_sets.specs.declared.kinds.KeyUse.{KeyUse}
@@ -69,13 +69,12 @@ module _ (f : List ℕ) (t own len : ℕ) (body : List ℕ) (at : ℕ) (s : Stan
 
   -- what the walk asks of the set, and where it goes
   module _ (stop : ℕ) (p : Places) (kind : t ≡ 255 → ⊥) (few : len < 4096) (end : stop ≤ length f) (room : at + (4 + paddedOf len) ≤ stop)
-      (good : badBody t len (beAt f (at + 4) 4) ≡ false) (once : holds p t ≡ false) (listed : listLen t len % 16 ≡ 0) where
+      (lengths : allowed t len ≡ true) (numbered : unnumbered t len (beAt f (at + 4) 4) ≡ false) (once : holds p t ≡ false) where
     fine : badSet f at stop p ≡ false
-    unfolding badSet badHead badShape
+    unfolding badSet extentOf
     fine =
-        let r : 4 ≤ stop - at = omega arith in
         let w : 4 + paddedOf len ≤ stop - at = omega arith in
-        rw (le-ltb (length f) stop end, le-ltb (stop - at) 4 r, type-at, len-at few, ne-eqb t 255 kind, le-ltb (stop - at) (4 + paddedOf len) w, good, once, listed)
+        rw (le-ltb (length f) stop end, type-at, len-at few, lengths, numbered, once, ne-eqb t 255 kind, le-leb (4 + paddedOf len) (stop - at) w)
 
     pub walk-over : walkFrom f stop at p ≡ walkFrom f stop (at + (4 + paddedOf len)) (placesWith p t at len)
     unfolding extentOf
@@ -146,15 +145,15 @@ module _ (f : List ℕ) (k : Sak) (at : ℕ) (g : GoodSak k) (s : Stands f (sakS
 
 module _ (f : List ℕ) (t own len : ℕ) (body : List ℕ) (at stop : ℕ) (p : Places) (after : Spot → Places)
     (kind : t ≡ 255 → ⊥) (few : len < 4096) (four : len % 4 ≡ 0) (long : length body ≡ len) (end : stop ≤ length f)
-    (once : holds p t ≡ false) (listed : listLen t len % 16 ≡ 0)
+    (lengths : allowed t len ≡ true) (once : holds p t ≡ false)
     (absent : after absentSpot ≡ p) (present : (x n : ℕ) → placesWith p t x n ≡ after (spotAt x n)) where
   pub walk-part : (b : Bool) → Stands f (cond b (setHeader t own len ++ body) []) at → at + length (cond b (setHeader t own len ++ body) []) ≤ stop
-      → (b ≡ true → badBody t len (beAt f (at + 4) 4) ≡ false)
+      → (b ≡ true → unnumbered t len (beAt f (at + 4) 4) ≡ false)
       → walkFrom f stop at p ≡ walkFrom f stop (at + length (cond b (setHeader t own len ++ body) [])) (after (spotIf b at len))
-  walk-part true s fit good =
+  walk-part true s fit numbered =
       let w : paddedOf len ≡ len = omega arith in
       let n : length (setHeader t own len ++ body) ≡ 4 + paddedOf len = length-append (setHeader t own len) body ∙ omega arith in
       let room : at + (4 + paddedOf len) ≤ stop = omega arith in
-      walk-over f t own len body at s stop p kind few end room (good refl) once listed
+      walk-over f t own len body at s stop p kind few end room lengths (numbered refl) once
       ∙ ap₂ (λ (x : ℕ) (q : Places). walkFrom f stop (at + x) q) (sym n) (present at len)
-  walk-part false s fit good = ap₂ (λ (x : ℕ) (q : Places). walkFrom f stop x q) (sym (add-zero at)) (sym absent)
+  walk-part false s fit numbered = ap₂ (λ (x : ℕ) (q : Places). walkFrom f stop x q) (sym (add-zero at)) (sym absent)

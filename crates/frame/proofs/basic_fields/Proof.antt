@@ -1,9 +1,10 @@
 use mathlib.Core.Path.{_≡_, ap, _∙_}
 use Prim.Native.Nat.{_+_}
 use denote.Ref.{now}
-use Rattle.frame.specs.Basic.{basicFields}
+use Rattle.frame.specs.Basic.{icvPlace, basicFields}
 use lib.ListN.{getD}
 use Rattle.base_packed.specs.Basic.{flagsOf}
+use native.Mathlib.Omega.{arith}
 use borrow.Author.Needs.{needs}
 use Rattle.frame.proofs.basic_fields.Statement.{statement}
 use Rattle.frame.proofs.basic_fields.Tie as tie
@@ -47,6 +48,7 @@ less-requires-2 c κs = search needs
 returns : tie.Need-returns
 unfolding basicFields
 returns c = let f : c .before .before .before .before .before .before .before .before .before .unpack .result ≡ flagsOf (getD (now (c .before .before .before .before .before .before .before .before .before .before .before .before .args .frame)) 6 0) = c .before .before .before .before .before .before .before .before .before .unpack .ensures ∙ ap flagsOf (c .before .before .before .before .before .before .before .before .before .before .octet .ensures) in
+    let stop : c .less2 .result ≡ icvPlace (c .before .before .before .before .before .before .before .before .before .before .before .before .args .body) = c .less2 .ensures ∙ omega arith in
     λ i. record {
       version = c .before .before .before .before .before .before .before .before .octet2 .ensures i;
       priority = c .before .before .before .before .before .before .before .octet3 .ensures i;
@@ -59,7 +61,7 @@ returns c = let f : c .before .before .before .before .before .before .before .b
       agility = c .before .before .before .u32-at2 .ensures i;
       size = c .before .before .less .ensures i;
       next = 8 + c .before .padded .ensures i;
-      stop = c .less2 .ensures i;
+      stop = stop i;
     }
 
 pub basic-fields-spec : {M : Type 1} → statement M

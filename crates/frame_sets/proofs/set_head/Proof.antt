@@ -1,21 +1,22 @@
 use mathlib.Core.Path.{sym, _∙_}
 use borrow.Author.Tests.{lt-ltb, le-ltb}
-use Rattle.frame_sets.specs.Set.{badShape, badHead, headOf, setFields}
+use Rattle.frame_sets.specs.Set.{badShape, headOf, setFields}
+use Rattle.frame_sets.proofs.Laws as laws
 use Rattle.base_facts.proofs.Laws.{check-failed, check-passed}
 use borrow.Author.Needs.{needs}
 use Rattle.frame_sets.proofs.set_head.Statement.{statement}
 use Rattle.frame_sets.proofs.set_head.Tie as tie
 
 returns : tie.Need-returns
-unfolding headOf badHead setFields
-returns c = rw (lt-ltb _ _ (c .if1 .taken))
+unfolding headOf setFields
+returns c = rw (laws.head-shape _ _ _ _, lt-ltb _ _ (c .if1 .taken))
 
 less-requires : tie.Need-less-requires
 less-requires c κs = search needs
 
 returns-2 : tie.Need-returns-2
-unfolding headOf badHead setFields
-returns-2 c = rw (le-ltb _ _ (c .before .before .if1 .left), ← c .before .less .ensures, lt-ltb _ 4 (c .if2 .taken))
+unfolding headOf setFields
+returns-2 c = rw (laws.head-shape _ _ _ _, le-ltb _ _ (c .before .before .if1 .left), ← c .before .less .ensures, laws.shape-no-room _ _ _ _ _ (c .if2 .taken))
 
 octet-requires : tie.Need-octet-requires
 octet-requires c κs = search needs
@@ -39,15 +40,15 @@ enum-told-2 : tie.Need-enum-told-2
 enum-told-2 c = search needs
 
 returns-3 : tie.Need-returns-3
-unfolding headOf badHead setFields
-returns-3 c = rw (le-ltb _ _ (c .before .before .before .before .before .before .before .before .if1 .left), ← c .before .before .before .before .before .before .before .less .ensures, le-ltb _ _ (c .before .before .before .before .before .before .if2 .left), ← c .before .before .before .before .before .octet .ensures, ← c .before .before .before .before .set-len .ensures, ← c .before .before .before .u32-at .ensures, check-failed (badShape _ _ _ _ _) (sym (c .before .before .shape .ensures) ∙ c .enum-told2 .given .1))
+unfolding headOf setFields
+returns-3 c = rw (laws.head-shape _ _ _ _, le-ltb _ _ (c .before .before .before .before .before .before .before .before .if1 .left), ← c .before .before .before .before .before .before .before .less .ensures, ← c .before .before .before .before .before .octet .ensures, ← c .before .before .before .before .set-len .ensures, ← c .before .before .before .u32-at .ensures, check-failed (badShape _ _ _ _ _) (sym (c .before .before .shape .ensures) ∙ c .enum-told2 .given .1))
 
 kind-at-requires : tie.Need-kind-at-requires
 kind-at-requires c κs = search needs
 
 returns-4 : tie.Need-returns-4
-unfolding headOf badHead setFields
-returns-4 c = rw (le-ltb _ _ (c .before .before .before .before .before .before .before .before .before .if1 .left), ← c .before .before .before .before .before .before .before .before .less .ensures, le-ltb _ _ (c .before .before .before .before .before .before .before .if2 .left), ← c .before .before .before .before .before .before .octet .ensures, ← c .before .before .before .before .before .set-len .ensures, ← c .before .before .before .before .u32-at .ensures, check-passed (badShape _ _ _ _ _) (sym (c .before .before .before .shape .ensures) ∙ c .before .enum-told .given .1), ← c .kind-at .ensures)
+unfolding headOf setFields
+returns-4 c = rw (laws.head-shape _ _ _ _, le-ltb _ _ (c .before .before .before .before .before .before .before .before .before .if1 .left), ← c .before .before .before .before .before .before .before .before .less .ensures, ← c .before .before .before .before .before .before .octet .ensures, ← c .before .before .before .before .before .set-len .ensures, ← c .before .before .before .before .u32-at .ensures, check-passed (badShape _ _ _ _ _) (sym (c .before .before .before .shape .ensures) ∙ c .before .enum-told .given .1), ← c .kind-at .ensures)
 
 pub set-head-spec : {M : Type 1} → statement M
 set-head-spec =

@@ -1,6 +1,8 @@
-use Prim.Native.Nat.{_+_}
-use borrow.Author.Tests.{lt-ltb, le-ltb, ne-eqb}
-use Rattle.frame_sets.specs.Set.{badShape}
+use Prim.Native.Nat.{_+_, _≤_}
+use mathlib.Core.Path.{_∙_}
+use native.Mathlib.Omega.{arith}
+use Rattle.base_facts.specs.Facts.{paddedOf}
+use Rattle.frame_sets.proofs.Laws as laws
 use borrow.Author.Needs.{needs}
 use Rattle.frame_sets.proofs.shape.Statement.{statement}
 use Rattle.frame_sets.proofs.shape.Tie as tie
@@ -9,12 +11,10 @@ fail-if-requires : tie.Need-fail-if-requires
 fail-if-requires c κs = search needs
 
 returns : tie.Need-returns
-unfolding badShape
-returns c = rw (c .before .before .if1 .taken, c .before .if2 .taken) (c .fail-if .ensures)
+returns c = let a = c .before .before .before .args in c .fail-if .ensures ∙ rw (c .before .before .if1 .taken, c .before .if2 .taken, laws.shape-icv (a .room) (a .kn) (a .seen))
 
 returns-2 : tie.Need-returns-2
-unfolding badShape
-returns-2 c = rw (c .before .if1 .taken, ne-eqb _ _ (c .if2 .left))
+returns-2 c = let a = c .before .before .args in rw (c .before .if1 .taken, laws.shape-icv-length (a .len) (a .room) (a .kn) (a .seen) (c .if2 .left))
 
 padded-requires : tie.Need-padded-requires
 padded-requires c κs = search needs
@@ -23,15 +23,16 @@ add-if3 : tie.Need-add-if3
 add-if3 c = search needs
 
 returns-3 : tie.Need-returns-3
-unfolding badShape
-returns-3 c = rw (ne-eqb _ _ (c .before .before .if1 .left), ← c .before .padded .ensures, lt-ltb _ (4 + c .before .padded .result) (c .if3 .taken))
+returns-3 c = let a = c .before .before .before .args in rw (laws.shape-tight (a .t) (a .len) (a .room) (a .kn) (a .seen) (c .before .before .if1 .left) (omega (arith, c .before .padded .ensures, c .if3 .taken)))
 
 bad-body-requires : tie.Need-bad-body-requires
 bad-body-requires c κs = search needs
 
 returns-4 : tie.Need-returns-4
-unfolding badShape
-returns-4 c = rw (ne-eqb _ _ (c .before .before .before .before .if1 .left), ← c .before .before .before .padded .ensures, le-ltb _ (4 + c .before .before .before .padded .result) (c .before .before .if3 .left), ← c .before .bad-body .ensures, c .if4 .taken)
+returns-4 c =
+    let a = c .before .before .before .before .before .args in
+    let room : 4 + paddedOf (a .len) ≤ a .room = omega (arith, c .before .before .before .padded .ensures, c .before .before .if3 .left) in
+    rw (laws.shape-body (a .t) (a .len) (a .room) (a .kn) (a .seen) (c .before .before .before .before .if1 .left) room, ← c .before .bad-body .ensures, c .if4 .taken)
 
 has-requires : tie.Need-has-requires
 has-requires c κs = search needs
@@ -40,8 +41,11 @@ fail-if-requires-2 : tie.Need-fail-if-requires-2
 fail-if-requires-2 c κs = search needs
 
 returns-5 : tie.Need-returns-5
-unfolding badShape
-returns-5 c = rw (ne-eqb _ _ (c .before .before .before .before .before .before .if1 .left), ← c .before .before .before .before .before .padded .ensures, le-ltb _ (4 + c .before .before .before .before .before .padded .result) (c .before .before .before .before .if3 .left), ← c .before .before .before .bad-body .ensures, c .before .before .if4 .left, ← c .before .has .ensures) (c .fail-if2 .ensures)
+returns-5 c =
+    let a = c .before .before .before .before .before .before .before .args in
+    let room : 4 + paddedOf (a .len) ≤ a .room = omega (arith, c .before .before .before .before .before .padded .ensures, c .before .before .before .before .if3 .left) in
+    c .fail-if2 .ensures
+    ∙ rw (laws.shape-body (a .t) (a .len) (a .room) (a .kn) (a .seen) (c .before .before .before .before .before .before .if1 .left) room, ← c .before .before .before .bad-body .ensures, c .before .before .if4 .left, ← c .before .has .ensures)
 
 pub shape-spec : {M : Type 1} → statement M
 shape-spec =

@@ -6,6 +6,7 @@ use lib.ListN.{set}
 use lib.Seq.{sets}
 use denote.Ref.{now}
 use borrow.Author.Needs.{needs}
+use Rattle.base_facts.specs.Numbers.{agility}
 use Rattle.base_packed.specs.Basic.{octetOf}
 use Rattle.base_octets.specs.Number.{beOf}
 use Rattle.base_mi.specs.Mi.{miOctets}
@@ -54,7 +55,7 @@ unfolding fixedOctets
 returns c =
     let a = c .before .before .before .before .before .before .before .before .before .before .before .before .before .before .before .before .before .before .before .before .before .before .before .before .before .before .before .before .before .before .before .before .before .before .before .args in
     let x = a .x in
-    let ag : List ℕ = beOf 4 0x0080c201 in
+    let ag : List ℕ = beOf 4 agility in
     let octets : c .before .before .before .before .before .before .before .before .before .before .before .before .before .before .before .before .before .before .put-octet4 .last .0 ≡ set (set (set (set (now (a .out)) 4 1) 5 (x .priority)) 6 (octetOf (senderFlags x))) 7 (28 + a .n) =
     c .before .before .before .before .before .before .before .before .before .before .before .before .before .before .before .before .before .before .put-octet4 .ensures
     ∙ ap (λ (z : List ℕ). set z 7 (28 + a .n)) (

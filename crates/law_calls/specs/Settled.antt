@@ -24,7 +24,7 @@ abbrev pub distributeFacts : Participant → ℕ → List ℕ → List (ℕ × B
 distributeFacts p time w = (15, not (eqb (length w) 24)) ∷ (17, not (freshDue (agedTo p time))) ∷ (14, eqb (p .kn) 4294967295) ∷ []
 
 abbrev pub newMiFacts : Participant → Mi → List (ℕ × Bool)
-newMiFacts p m = (19, taken p m) ∷ []
+newMiFacts p m = (19, inUse p m) ∷ []
 
 abbrev pub reportFacts : Participant → Mi → ℕ → Bool → List (ℕ × Bool)
 reportFacts p m kn transmit = (18, misreported (p .latest) m kn transmit) ∷ []

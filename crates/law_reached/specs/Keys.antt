@@ -239,7 +239,7 @@ unfolding fresh
 keys-start k ok = rw (start k ok) (no-keys (k .mi) 0)
 
 pub keys-becomes : (p : Participant) (c : Call) → NoneHolds (facts p c) → Carried c → Own p → KeysOf p → KeysOf (becomes p c)
-unfolding receiveFacts frameFacts tableFacts sentAt agedTo withFresh withKey freshKey renewed taken
+unfolding receiveFacts frameFacts tableFacts sentAt agedTo withFresh withKey freshKey renewed inUse
 keys-becomes p (receives time verdict frame) h v o k = received p time verdict frame (h .1 .1 .1 .1 .1 .1 .1 .1 .1 .0) (v .1) k
 keys-becomes p (sends time latestPn oldPn out) h v o k = k
 keys-becomes p (distributes time wrapped) h v o k = distributed p o (h .1 .1 .1 .0) k

@@ -1,1 +1,2 @@
-// Any two answers that a public statement allows are the same: the law, and its citation for every public function; no code.
+// Every public function asks nothing, and any two answers that its statement allows are the same: the laws, and their citations for
+// every public function; no code.

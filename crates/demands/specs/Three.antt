@@ -24,7 +24,7 @@ use Rattle.law_history.specs.ClockArgument.{clock-latest}
 -- k is an accepted creation, cs any calls after it, accepted or refused, the newest first.
 pub record Three : Type 0 where
   -- "a peer is Live exactly when .. less than 6,000 ms .. the last four numbers ..": both directions, for every identifier
-  pub live : (k : Creation) → created k .answer ≡ Done → (m : Mi) (cs : List Call) → (isLiveAfter k cs m ≡ true) ↔ ProvedLately k cs m
+  pub live : (k : Creation) → created k .answer ≡ Done → (m : Mi) (cs : List Call) → (isLiveAfter k cs m ≡ true) ↔ ProvedLately 6000 4 k cs m
   -- "At most 16 peers stand in the table"
   pub at-most : (k : Creation) → created k .answer ≡ Done → (cs : List Call) → (after k cs .table .count ≡ length (peersAfter k cs)) × (length (peersAfter k cs) ≤ 16)
   -- "none twice"

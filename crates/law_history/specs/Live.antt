@@ -12,6 +12,7 @@ use Rattle.table_expiry.specs.Expiry.{lifeTime}
 use Rattle.table_lookup.specs.Look.{heldIn, liveFor}
 use Rattle.participant.specs.declared.call.Answer.the-variants.{Done}
 use Rattle.call_judge.specs.Judge.{basicIn, walkIn, placesIn}
+use Rattle.call_hearing.specs.Proof.{window}
 use Rattle.law_history.specs.Calls.{Creation, created, Call, receives, after, identifier, numbersSent, Made, NoneTaken}
 use Rattle.law_history.specs.Recent.{Recent}
 
@@ -23,7 +24,7 @@ listed frame =
 
 -- A proof of m at a time: an accepted frame of m's, and since then no new identifier was taken; its Live or Potential list has our
 -- identifier with a number that was recent by then, of those sent under it.
-pub record Proof (k : Creation) (cs : List Call) (m : Mi) (time : ℕ) : Type 0 where
+pub record Proof (last : ℕ) (k : Creation) (cs : List Call) (m : Mi) (time : ℕ) : Type 0 where
   pub verdict : Bool
   pub frame : List ℕ
   pub made : Made k cs (receives time verdict frame)
@@ -31,17 +32,17 @@ pub record Proof (k : Creation) (cs : List Call) (m : Mi) (time : ℕ) : Type 0 
   pub since : NoneTaken k (made .later) (receives time verdict frame ∷ made .earlier)
   pub number : ℕ
   pub named : List·Memᴰ (record { mi = identifier k cs; mn = number }) (listed frame)
-  pub recent : Recent number (numbersSent k (made .earlier))
+  pub recent : Recent last number (numbersSent k (made .earlier))
 
--- ".. less than 6,000 ms before the clock"
-pub record ProvedLately (k : Creation) (cs : List Call) (m : Mi) : Type 0 where
+-- ".. less than 6,000 ms before the clock": a life time, and one of the last so many numbers
+pub record ProvedLately (life last : ℕ) (k : Creation) (cs : List Call) (m : Mi) : Type 0 where
   pub time : ℕ
-  pub proof : Proof k cs m time
-  pub lately : after k cs .clock < time + lifeTime
+  pub proof : Proof last k cs m time
+  pub lately : after k cs .clock < time + life
 
 abbrev pub isLiveAfter : Creation → List Call → Mi → Bool
 isLiveAfter k cs m = liveFor (heldIn m (after k cs .table))
 
 -- Both directions, for every identifier, also one that is not in the table.
 abbrev pub LiveExactly : Type 0
-LiveExactly = (k : Creation) → created k .answer ≡ Done → (m : Mi) (cs : List Call) → (isLiveAfter k cs m ≡ true) ↔ ProvedLately k cs m
+LiveExactly = (k : Creation) → created k .answer ≡ Done → (m : Mi) (cs : List Call) → (isLiveAfter k cs m ≡ true) ↔ ProvedLately lifeTime window k cs m

@@ -14,6 +14,7 @@ use Rattle.law_lists.specs.Laws.{by-cases, never, clash, both, first-of, second
 use Rattle.law_kept.specs.Same.{same-eq, same-refl}
 use Rattle.participant.specs.declared.call.Answer.the-variants.{Done}
 use Rattle.call_judge.specs.Judge.{basicIn}
+use Rattle.call_hearing.specs.Proof.{window}
 use Rattle.law_history.specs.Calls.{Creation, created, Call, receives, sends, distributes, ticks, renews, reports, asks, saves, after, accepted, identifier, NoneTaken}
 use Rattle.law_history.specs.Steps.{accepted-none}
 use Rattle.law_history.specs.Becomes.{proves, not-before}
@@ -27,7 +28,7 @@ use Rattle.law_history.specs.Naming.{proves-has, has-proves}
 module _ (k : Creation) (ok : created k .answer ≡ Done) (m : Mi) where
   -- ---- the last proof is a proof
 
-  extended : (cs : List Call) (c : Call) (at : ℕ) → ((time : ℕ) (x : Mi) → c ≡ renews time x → accepted k cs c ≡ false) → Proof k cs m at → Proof k (c ∷ cs) m at
+  extended : (cs : List Call) (c : Call) (at : ℕ) → ((time : ℕ) (x : Mi) → c ≡ renews time x → accepted k cs c ≡ false) → Proof window k cs m at → Proof window k (c ∷ cs) m at
   extended cs c at one p =
       let r = receives at (p .verdict) (p .frame) in
       let made = p .made in
@@ -43,7 +44,7 @@ module _ (k : Creation) (ok : created k .answer ≡ Done) (m : Mi) where
       }
 
   proof-now : (cs : List Call) (time : ℕ) (verdict : Bool) (frame : List ℕ) → accepted k cs (receives time verdict frame) ≡ true → provesOf (after k cs) m frame ≡ true
-      → Proof k (receives time verdict frame ∷ cs) m time
+      → Proof window k (receives time verdict frame ∷ cs) m time
   proof-now cs time verdict frame e b =
       let p = after k cs in
       let s = first-of (miSame m (basicIn frame .mi)) (proves p frame) b in
@@ -62,10 +63,10 @@ module _ (k : Creation) (ok : created k .answer ≡ Done) (m : Mi) where
 
   -- an accepted call either leaves the last proof or is it
   found-by : (cs : List Call) (c : Call) (at : ℕ) → accepted k cs c ≡ true → proofBy (after k cs) m c (lastProof k m cs) ≡ some at
-      → (lastProof k m cs ≡ some at → Proof k cs m at) → Proof k (c ∷ cs) m at
+      → (lastProof k m cs ≡ some at → Proof window k cs m at) → Proof window k (c ∷ cs) m at
   found-by cs (receives time verdict frame) at e p before =
       by-cases (provesOf (after k cs) m frame)
-      (λ b. let t : time ≡ at = cc (rw b at p) in subst (λ (n : ℕ). Proof k (receives time verdict frame ∷ cs) m n) t (proof-now cs time verdict frame e b))
+      (λ b. let t : time ≡ at = cc (rw b at p) in subst (λ (n : ℕ). Proof window k (receives time verdict frame ∷ cs) m n) t (proof-now cs time verdict frame e b))
       (λ b. extended cs (receives time verdict frame) at (λ time x s. never (cc)) (before (rw b at p)))
   found-by cs (sends time latestPn oldPn out) at e p before = extended cs (sends time latestPn oldPn out) at (λ time x s. never (cc)) (before p)
   found-by cs (distributes time wrapped) at e p before = extended cs (distributes time wrapped) at (λ time x s. never (cc)) (before p)
@@ -75,7 +76,7 @@ module _ (k : Creation) (ok : created k .answer ≡ Done) (m : Mi) where
   found-by cs asks at e p before = extended cs asks at (λ time x s. never (cc)) (before p)
   found-by cs (saves out) at e p before = extended cs (saves out) at (λ time x s. never (cc)) (before p)
 
-  found : (cs : List Call) (at : ℕ) → lastProof k m cs ≡ some at → Proof k cs m at
+  found : (cs : List Call) (at : ℕ) → lastProof k m cs ≡ some at → Proof window k cs m at
   found [] at p = never (cc)
   found (c ∷ cs) at p =
       by-cases (accepted k cs c)
@@ -123,17 +124,17 @@ module _ (k : Creation) (ok : created k .answer ≡ Done) (m : Mi) where
 
   -- ---- both directions
 
-  live-has-proof : (cs : List Call) → isLiveAfter k cs m ≡ true → ProvedLately k cs m
+  live-has-proof : (cs : List Call) → isLiveAfter k cs m ≡ true → ProvedLately lifeTime window k cs m
   live-has-proof cs e = go (lastProof k m cs) refl (sym (live-is k m cs) ∙ e)
     where
-      go : (x : Option ℕ) → lastProof k m cs ≡ x → isSome (agedProof (after k cs .clock) (lastProof k m cs)) ≡ true → ProvedLately k cs m
+      go : (x : Option ℕ) → lastProof k m cs ≡ x → isSome (agedProof (after k cs .clock) (lastProof k m cs)) ≡ true → ProvedLately lifeTime window k cs m
       go none p e = clash (rw p at e)
       go (some at) p e =
           by-cases (freshAt (after k cs .clock) at)
           (λ f. record { time = at; proof = found cs at p; lately = omega (arith, ltb-true (after k cs .clock - at) lifeTime f) })
           (λ f. clash (rw (p, f) at e))
 
-  proof-is-live : (cs : List Call) → ProvedLately k cs m → isLiveAfter k cs m ≡ true
+  proof-is-live : (cs : List Call) → ProvedLately lifeTime window k cs m → isLiveAfter k cs m ≡ true
   proof-is-live cs h =
       let time = h .time in
       let p = h .proof in

@@ -6,16 +6,12 @@ use mathlib.Core.Bool.{true}
 use mathlib.Core.List.{List, [], _∷_, List·Memᴰ}
 use mathlib.Core.Logic.{_↔_}
 use lib.ListN.{take}
-use Rattle.call_hearing.specs.Proof.{isRecent}
+use Rattle.call_hearing.specs.Proof.{window, isRecent}
 use Rattle.law_history.specs.Calls.{Creation, Call, after, numbersSent}
 
--- "one of the last four sent"
-abbrev pub window : ℕ
-window = 4
-
--- A number is recent if it is one of the last of the numbers sent, which stand newest first.
-abbrev pub Recent : ℕ → List ℕ → Type 0
-Recent n numbers = List·Memᴰ n (take window numbers)
+-- A number is recent if it is one of the last so many of the numbers sent, which stand newest first.
+abbrev pub Recent : ℕ → ℕ → List ℕ → Type 0
+Recent last n numbers = List·Memᴰ n (take last numbers)
 
 -- n, n - 1, .. 1
 abbrev pub countdown : ℕ → List ℕ
@@ -28,4 +24,4 @@ NumbersCount = (k : Creation) (cs : List Call) → numbersSent k cs ≡ countdow
 
 -- What the library takes for recent, by MN, is recent by the history.
 abbrev pub RecentExactly : Type 0
-RecentExactly = (k : Creation) (cs : List Call) (n : ℕ) → (isRecent n (after k cs .mn) ≡ true) ↔ Recent n (numbersSent k cs)
+RecentExactly = (k : Creation) (cs : List Call) (n : ℕ) → (isRecent n (after k cs .mn) ≡ true) ↔ Recent window n (numbersSent k cs)

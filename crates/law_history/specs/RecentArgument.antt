@@ -13,13 +13,13 @@ use Rattle.participant.specs.declared.Participant.{Participant}
 use Rattle.participant.proofs.Settle.{NoneHolds}
 use Rattle.law_calls.specs.Fields.{create-empty}
 use Rattle.law_calls.specs.Passed.{send-passed}
-use Rattle.call_hearing.specs.Proof.{isRecent}
+use Rattle.call_hearing.specs.Proof.{window, isRecent}
 use Rattle.law_history.specs.Calls.{Creation, created, Call, receives, sends, distributes, ticks, renews, reports, asks, saves, after, accepts, wrote, numbersSent}
 use Rattle.law_history.specs.Steps.{facts, becomes, accepted-none}
 use Rattle.law_history.specs.Becomes.{counted, effect}
 use Rattle.law_history.specs.Splits.{carry}
 use Rattle.law_history.specs.Written.{number-sent}
-use Rattle.law_history.specs.Recent.{window, Recent, countdown, NumbersCount, RecentExactly}
+use Rattle.law_history.specs.Recent.{Recent, countdown, NumbersCount, RecentExactly}
 
 -- ---- the numbers sent count down from MN to 1
 
@@ -85,7 +85,7 @@ are-last (suc j) (suc n) x a b d =
     (λ e. let ne = eqb-false x (suc n) e in List·Memᴰ·tail (are-last j n x a (omega arith) (omega arith)))
 
 module _ (k : Creation) (cs : List Call) (n : ℕ) where
-  recent-sent : isRecent n (after k cs .mn) ≡ true → Recent n (numbersSent k cs)
+  recent-sent : isRecent n (after k cs .mn) ≡ true → Recent window n (numbersSent k cs)
   unfolding isRecent
   recent-sent e =
       let last = after k cs .mn in
@@ -95,7 +95,7 @@ module _ (k : Creation) (cs : List Call) (n : ℕ) where
       let lt = ltb-true (last - n) 4 (second-of (leb n last) (ltb (last - n) 4) r) in
       rw (numbers-count k cs) (are-last window last n (omega arith) le (omega arith))
 
-  sent-recent : Recent n (numbersSent k cs) → isRecent n (after k cs .mn) ≡ true
+  sent-recent : Recent window n (numbersSent k cs) → isRecent n (after k cs .mn) ≡ true
   unfolding isRecent
   sent-recent m =
       let last = after k cs .mn in

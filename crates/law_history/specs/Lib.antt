@@ -21,4 +21,3 @@ pub mod Proving
 pub mod LiveArgument
 pub mod Keys
 pub mod KeysArgument
-pub mod Worked

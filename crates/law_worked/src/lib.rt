@@ -1,0 +1,1 @@
+// Theorems: worked histories, computed.

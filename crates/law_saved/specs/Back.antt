@@ -1,8 +1,8 @@
 -- What is read from an accepted image is well formed, and its image is these octets again.
-use Prim.Native.Nat.{ℕ, zero, suc, _+_, _*_, _^_, _<_, _≤_, min}
+use Prim.Native.Nat.{ℕ, zero, suc, _+_, _*_, _≤_, min}
 use mathlib.Core.Path.{_≡_, refl, ap, ap₂, sym, _∙_}
 use mathlib.Core.List.{List, [], _∷_, _++_, append-nil}
-use mathlib.Core.Bool.{Bool, true, false, cond, _&&_}
+use mathlib.Core.Bool.{Bool, true, false, _&&_}
 use native.Mathlib.Omega.{arith}
 use lib.ListN.{length, replicate, take, drop, length-replicate}
 use lib.Seq.{length-sets}
@@ -14,14 +14,12 @@ use Rattle.base_octets.proofs.Laws.{Octets, beAt-lt}
 use Rattle.base_mi.specs.Mi.{miAt}
 use Rattle.base_mi.proofs.Laws.{Fitting}
 use Rattle.base_packed.specs.Bit.{bit}
-use Rattle.table.specs.Table.{entries, tableOf}
-use Rattle.table_expiry.specs.Kept.{Tidy}
-use Rattle.table.specs.declared.Peer.{Peer}
+use Rattle.table.specs.Table.{entries}
 use Rattle.table_expiry.proofs.Aging.{entries-tableOf, tidy-tableOf}
-use Rattle.law_lists.specs.Laws.{by-cases, first-of, second-of, clash}
+use Rattle.law_lists.specs.Laws.{by-cases, first-of, second-of}
 use Rattle.participant.specs.Keys.{noSlot}
 use Rattle.participant.specs.declared.Participant.{Participant}
-use Rattle.image_layout.specs.Layout.{Part, recordsAt, offsetAt, laidOf, laidOut, partsFrom, partsIn}
+use Rattle.image_layout.specs.Layout.{recordsAt, offsetAt, laidOf, laidOut, partsFrom, partsIn}
 use Rattle.image_layout.proofs.Back.{PlacedFrom, laid-placed, laid-back}
 use Rattle.image_own.specs.Own.{namedOctets, timesOctets, keptOctets, ownOctets, ownAt, ownClean}
 use Rattle.image_peer.specs.Peer.{peersOctets, peerAt, peersAt, peersClean}
@@ -29,9 +27,9 @@ use Rattle.image_key.specs.Key.{keyOctets, slotOctets, keyAt, slotAt, slotClean
 use Rattle.image_peer.proofs.Laws.{length-peersAt}
 use Rattle.law_reread.specs.Fit.{FitPeer, FitPeers, FitKey, FitOwn}
 use Rattle.law_reread.specs.Cut.{cut, glue}
-use Rattle.law_reread.specs.Own.{own-back}
-use Rattle.law_reread.specs.Peer.{peers-back}
-use Rattle.law_reread.specs.Key.{key-back}
+use Rattle.law_reread.specs.OwnArgument.{own-back}
+use Rattle.law_reread.specs.PeerArgument.{peers-back}
+use Rattle.law_reread.specs.KeyArgument.{key-back}
 use Rattle.image_rules.specs.Rules.{only, rules}
 use Rattle.law_saved.specs.WellFormed.{TidySlot, WellFormed}
 use Rattle.image.specs.Image.{ownPart, peersPart, keysPart, imageOf}

@@ -2,11 +2,11 @@
 use Prim.Native.Nat.{ℕ, _+_, _*_, _^_, _<_, _≤_, min}
 use mathlib.Core.Path.{_≡_, refl, ap, ap₂, sym, _∙_}
 use mathlib.Core.List.{List, [], _∷_, _++_}
-use mathlib.Core.Bool.{Bool, true, false, not, cond, _&&_, _||_}
+use mathlib.Core.Bool.{Bool, true, false, not, _&&_, _||_}
 use native.Mathlib.Omega.{arith}
 use lib.ListN.{length, length-append, length-take}
 use lib.Dec.{ltb, eqb}
-use borrow.Author.Tests.{ltb-true, ltb-false, lt-ltb, le-ltb, le-leb, eq-eqb, not-true}
+use borrow.Author.Tests.{ltb-false, le-leb, eq-eqb}
 use Rattle.base_octets.proofs.Fields.{Stands, first, second, moved}
 use Rattle.base_packed.specs.Bit.{bit}
 use Rattle.base_packed.proofs.Laws.{bit-lt}
@@ -18,18 +18,18 @@ use Rattle.participant.specs.Call.{doneOf}
 use Rattle.call_creation.specs.Create.{badStart}
 use Rattle.participant.specs.declared.Slot.{Slot}
 use Rattle.participant.specs.declared.Participant.{Participant}
-use Rattle.image_layout.specs.Layout.{Part, recordsAt, offsetAt, laidOf, bodies, laidOut}
-use Rattle.image_layout.proofs.Laws.{length-laid}
+use Rattle.image_layout.specs.Layout.{Part, recordsAt, offsetAt, laidOf, laidOut}
 use Rattle.image_layout.proofs.Round.{Matching, Told, ToldFrom, told, laid-round}
 use Rattle.image_own.specs.Own.{ownOctets, ownAt, ownClean}
 use Rattle.image_peer.specs.Peer.{peersOctets, peersAt, peersClean}
-use Rattle.image_key.specs.Key.{keyOctets, slotOctets, keyAt, keyClean, slotAt, slotClean}
-use Rattle.image_key.proofs.Laws.{length-key}
+use Rattle.image_key.specs.Key.{keyOctets, slotOctets, slotAt, slotClean}
 use Rattle.image_own.proofs.Lengths.{length-own}
 use Rattle.law_reread.specs.Fit.{FitKey}
-use Rattle.law_reread.specs.Own.{alone, own-stands}
-use Rattle.law_reread.specs.Peer.{AllTold, peers-stand}
-use Rattle.law_reread.specs.Key.{key-stands}
+use Rattle.law_reread.specs.Own.{alone}
+use Rattle.law_reread.specs.OwnArgument.{own-stands}
+use Rattle.law_reread.specs.Peer.{AllTold}
+use Rattle.law_reread.specs.PeerArgument.{peers-stand}
+use Rattle.law_reread.specs.KeyArgument.{key-stands}
 use Rattle.image_rules.specs.Rules.{only, ownGood, peersGood, keysGood, rules}
 use Rattle.image_rules.proofs.Laws.{good-rules}
 use Rattle.law_saved.specs.WellFormed.{TidySlot, WellFormed}

@@ -1,7 +1,7 @@
 -- What can't happen: MN and KN never wrap, and a sender that is ours is never entered.
 use Prim.Native.Nat.{ℕ, _+_, _^_, _<_}
 use mathlib.Core.Path.{_≡_, refl}
-use mathlib.Core.Bool.{Bool, true, false}
+use mathlib.Core.Bool.{Bool, false}
 use mathlib.Core.List.{List, _∷_}
 use native.Mathlib.Omega.{arith}
 use lib.Dec.{eqb}
@@ -9,11 +9,10 @@ use borrow.Author.Tests.{eqb-false}
 use Rattle.base_facts.specs.Facts.{firstOf}
 use Rattle.base_mi.specs.Mi.{miSame}
 use Rattle.participant.specs.declared.Participant.{Participant}
-use Rattle.participant.specs.Call.{settle, fact1, agedTo}
+use Rattle.participant.specs.Call.{fact1, agedTo}
 use Rattle.participant.specs.Record.{first24}
 use Rattle.call_distribute.specs.Distribute.{withFresh, distributedOf}
 use Rattle.participant.specs.declared.call.Answer.the-variants.{Done}
-use Rattle.participant.specs.declared.call.Called.{Called}
 use Rattle.participant.proofs.Settle.{none-holds, on-done}
 use Rattle.law_calls.specs.Settled.{distributeFacts}
 use Rattle.call_judge.specs.Judge.{basicIn}

@@ -14,7 +14,7 @@ use Rattle.law_history.specs.Calls.{Creation, created, Call, answered, p
 use Rattle.law_history.specs.Steps.{accepted-becomes, accepted-none, refused-leaves}
 use Rattle.law_history.specs.Becomes.{timeOr, effect, not-before}
 use Rattle.law_history.specs.Splits.{start, from-append, made-now, made-before, after-accepted, after-refused}
-use Rattle.law_history.specs.Clock.{Timed, Latest, ClockLatest}
+use Rattle.law_history.specs.Clock.{Timed, ClockLatest}
 
 -- no call sets the clock back
 onward-one : (p : Participant) (c : Call) → p .clock ≤ answered p c .clock

@@ -1,10 +1,7 @@
 -- Why: MN is the last of the numbers sent, and the participant's identifier is the history's.
 use Prim.Native.Nat.{ℕ, zero, suc, _+_}
 use mathlib.Core.Path.{_≡_, refl, ap, sym, _∙_}
-use mathlib.Core.List.{List}
-use native.Mathlib.Omega.{arith}
 use lib.ListN.{length}
-use Rattle.base_mi.proofs.Laws.{Fitting}
 use Rattle.law_history.specs.Calls.{after, numbersSent}
 use Rattle.law_history.specs.Splits.{own}
 use Rattle.law_history.specs.Written.{number-sent, identifier-sent}

@@ -37,7 +37,7 @@ use Rattle.law_history.specs.Steps.{becomes, accepted-none}
 use Rattle.law_history.specs.Becomes.{updatedIn, by-keyed}
 use Rattle.law_history.specs.Splits.{start, own, distributed, capable, made-now, made-before, after-accepted, after-refused}
 use Rattle.law_history.specs.TableArgument.{keeps}
-use Rattle.law_history.specs.Keys.{Ours, Theirs, CameFrom, sakSpot, sakRead, LatestHandedOut, OldHandedOut}
+use Rattle.law_history.specs.Keys.{CameFrom, sakSpot, sakRead, LatestHandedOut, OldHandedOut}
 
 -- ---- what a history has said stays said; reports change only the flags
 

@@ -1,5 +1,5 @@
 -- Why: the last proof by the table is a proof by the history, and a proof by the history is no later than the last.
-use Prim.Native.Nat.{ℕ, _+_, _-_, _≤_, _<_}
+use Prim.Native.Nat.{ℕ, _-_, _≤_}
 use mathlib.Core.Path.{_≡_, refl, ap, sym, subst, _∙_}
 use mathlib.Core.Bool.{Bool, true, false}
 use mathlib.Core.List.{List, [], _∷_, _++_, Memᴰ·cast}
@@ -24,6 +24,12 @@ use Rattle.law_history.specs.RecentArgument.{recent-exactly}
 use Rattle.law_history.specs.Proving.{provesOf, lastProof, proofBy, live-is}
 use Rattle.law_history.specs.Live.{Proof, ProvedLately, isLiveAfter, LiveExactly}
 use Rattle.law_history.specs.Naming.{proves-has, has-proves}
+
+-- the last proof, at that time or later
+record Since (x : Option ℕ) (time : ℕ) : Type 0 where
+  at : ℕ
+  last : x ≡ some at
+  late : time ≤ at
 
 module _ (k : Creation) (ok : created k .answer ≡ Done) (m : Mi) where
   -- ---- the last proof is a proof
@@ -56,9 +62,9 @@ module _ (k : Creation) (ok : created k .answer ≡ Done) (m : Mi) where
         made = made-now k cs (receives time verdict frame) e;
         sender = sym (same-eq m (basicIn frame .mi) s);
         since = taken-none k (receives time verdict frame ∷ cs);
-        number = r .0;
-        named = Memᴰ·cast (λ i. record { mi = ours i; mn = r .0 }) (r .1 .0);
-        recent = recent-exactly k cs (r .0) .0 (r .1 .1);
+        number = r .number;
+        named = Memᴰ·cast (λ i. record { mi = ours i; mn = r .number }) (r .named);
+        recent = recent-exactly k cs (r .number) .0 (r .recent);
       }
 
   -- an accepted call either leaves the last proof or is it
@@ -85,15 +91,12 @@ module _ (k : Creation) (ok : created k .answer ≡ Done) (m : Mi) where
 
   -- ---- a proof is no later than the last one
 
-  abbrev Since : List Call → ℕ → Type 0
-  Since cs time = (at : ℕ) × ((lastProof k m cs ≡ some at) × (time ≤ at))
-
   stays-by : (cs : List Call) (c : Call) (time : ℕ) → accepted k cs c ≡ true → ((t : ℕ) (x : Mi) → c ≡ renews t x → accepted k cs c ≡ false)
-      → time ≤ after k cs .clock → Since cs time → (at : ℕ) × ((proofBy (after k cs) m c (lastProof k m cs) ≡ some at) × (time ≤ at))
+      → time ≤ after k cs .clock → Since (lastProof k m cs) time → Since (proofBy (after k cs) m c (lastProof k m cs)) time
   stays-by cs (receives t verdict frame) time e one h s =
       by-cases (provesOf (after k cs) m frame)
-      (λ b. (t, (rw b, omega (arith, not-before (after k cs) (receives t verdict frame) (accepted-none (after k cs) (receives t verdict frame) e)))))
-      (λ b. (s .0, (rw b (s .1 .0), s .1 .1)))
+      (λ b. record { at = t; last = rw b; late = omega (arith, not-before (after k cs) (receives t verdict frame) (accepted-none (after k cs) (receives t verdict frame) e)) })
+      (λ b. rw b s)
   stays-by cs (sends t latestPn oldPn out) time e one h s = s
   stays-by cs (distributes t wrapped) time e one h s = s
   stays-by cs (ticks t) time e one h s = s
@@ -102,25 +105,19 @@ module _ (k : Creation) (ok : created k .answer ≡ Done) (m : Mi) where
   stays-by cs asks time e one h s = s
   stays-by cs (saves out) time e one h s = s
 
-  since-accepted : (cs : List Call) (c : Call) (time : ℕ) → accepted k cs c ≡ true → (at : ℕ) × ((proofBy (after k cs) m c (lastProof k m cs) ≡ some at) × (time ≤ at)) → Since (c ∷ cs) time
-  since-accepted cs c time e x = (x .0, (rw e (x .1 .0), x .1 .1))
-
-  since-refused : (cs : List Call) (c : Call) (time : ℕ) → accepted k cs c ≡ false → Since cs time → Since (c ∷ cs) time
-  since-refused cs c time e x = (x .0, (rw e (x .1 .0), x .1 .1))
-
-  stays : (time : ℕ) (later earlier : List Call) → time ≤ after k earlier .clock → NoneTaken k later earlier → Since earlier time → Since (later ++ earlier) time
+  stays : (time : ℕ) (later earlier : List Call) → time ≤ after k earlier .clock → NoneTaken k later earlier → Since (lastProof k m earlier) time → Since (lastProof k m (later ++ earlier)) time
   stays time [] earlier h since s = s
   stays time (c ∷ later) earlier h since s =
       let cs = later ++ earlier in
       let r = stays time later earlier h (taken-before k c later earlier since) s in
       let one : (t : ℕ) (x : Mi) → c ≡ renews t x → accepted k cs c ≡ false = λ t x q. ap (accepted k cs) q ∙ since [] later t x (ap (λ (d : Call). d ∷ later) q) in
       by-cases (accepted k cs c)
-      (λ e. since-accepted cs c time e (stays-by cs c time e one (omega (arith, onward k later earlier)) r))
-      (λ e. since-refused cs c time e r)
+      (λ e. rw e (stays-by cs c time e one (omega (arith, onward k later earlier)) r))
+      (λ e. rw e r)
 
   proof-then : (earlier : List Call) (time : ℕ) (verdict : Bool) (frame : List ℕ) → accepted k earlier (receives time verdict frame) ≡ true → provesOf (after k earlier) m frame ≡ true
-      → Since (receives time verdict frame ∷ earlier) time
-  proof-then earlier time verdict frame e b = (time, (rw (e, b), omega arith))
+      → Since (lastProof k m (receives time verdict frame ∷ earlier)) time
+  proof-then earlier time verdict frame e b = record { at = time; last = rw (e, b); late = omega arith }
 
   -- ---- both directions
 
@@ -146,13 +143,13 @@ module _ (k : Creation) (ok : created k .answer ≡ Done) (m : Mi) where
       ap (identifier k) (made .split) ∙ identifier-since k (made .later) (c ∷ made .earlier) (p .since)
       ∙ identifier-received k (made .earlier) time (p .verdict) (p .frame) ∙ sym (own k ok (made .earlier)) in
       let has = Memᴰ·cast (λ i. record { mi = sym ours i; mn = p .number }) (p .named) in
-      let shows = has-proves q (p .frame) (p .number) (has, recent-exactly k (made .earlier) (p .number) .1 (p .recent)) in
+      let shows = has-proves q (p .frame) (record { number = p .number; named = has; recent = recent-exactly k (made .earlier) (p .number) .1 (p .recent) }) in
       let sender : miSame m (basicIn (p .frame) .mi) ≡ true = ap (miSame m) (p .sender) ∙ same-refl m in
       let first = proof-then (made .earlier) time (p .verdict) (p .frame) (made .done) (both _ _ sender shows) in
       let set = clock-set k (made .earlier) c (made .done) in
-      let r : Since cs time = rw (made .split) (stays time (made .later) (c ∷ made .earlier) (omega arith) (p .since) first) in
-      let fresh : freshAt (after k cs .clock) (r .0) ≡ true = lt-ltb (after k cs .clock - r .0) lifeTime (omega (arith, r .1 .1)) in
-      live-is k m cs ∙ rw (r .1 .0, fresh)
+      let r : Since (lastProof k m cs) time = rw (made .split) (stays time (made .later) (c ∷ made .earlier) (omega arith) (p .since) first) in
+      let fresh : freshAt (after k cs .clock) (r .at) ≡ true = lt-ltb (after k cs .clock - r .at) lifeTime (omega arith) in
+      live-is k m cs ∙ rw (r .last, fresh)
 
 pub live-exactly : LiveExactly
 live-exactly k ok m cs = (live-has-proof k ok m cs, proof-is-live k ok m cs)

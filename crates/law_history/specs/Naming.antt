@@ -16,26 +16,33 @@ use Rattle.call_hearing.specs.Proof.{isRecent, anyRecent, namedIn, provesIn}
 use Rattle.law_history.specs.Becomes.{proves}
 use Rattle.law_history.specs.Live.{listed}
 
-module _ (own : Mi) (last : ℕ) where
-  abbrev pub Has : List Entry → ℕ → Type 0
-  Has es n = List·Memᴰ (record { mi = own; mn = n }) es × (isRecent n last ≡ true)
+-- an entry with our identifier and a number that is recent by the last one sent
+pub record Has (own : Mi) (last : ℕ) (es : List Entry) : Type 0 where
+  pub number : ℕ
+  pub named : List·Memᴰ (record { mi = own; mn = number }) es
+  pub recent : isRecent number last ≡ true
 
-  has-one : (es : List Entry) → anyRecent own last es ≡ true → (n : ℕ) × Has es n
+module _ (own : Mi) (last : ℕ) where
+  has-one : (es : List Entry) → anyRecent own last es ≡ true → Has own last es
   has-one [] e = clash e
   has-one (x ∷ es) e =
       by-cases (miSame (x .mi) own && isRecent (x .mn) last)
       (λ b.
       let mi = same-eq (x .mi) own (first-of (miSame (x .mi) own) (isRecent (x .mn) last) b) in
-      (x .mn, (List·Memᴰ·head (λ i. record { mi = sym mi i; mn = x .mn }), second-of (miSame (x .mi) own) (isRecent (x .mn) last) b)))
-      (λ b. let r = has-one es (rw b at e) in (r .0, (List·Memᴰ·tail (r .1 .0), r .1 .1)))
+      record {
+        number = x .mn;
+        named = List·Memᴰ·head (λ i. record { mi = sym mi i; mn = x .mn });
+        recent = second-of (miSame (x .mi) own) (isRecent (x .mn) last) b;
+      })
+      (λ b. let r = has-one es (rw b at e) in record { number = r .number; named = List·Memᴰ·tail (r .named); recent = r .recent })
 
-  one-has : (es : List Entry) (n : ℕ) → Has es n → anyRecent own last es ≡ true
-  one-has [] n h = absurd (List·Memᴰ·not-nil (h .0))
-  one-has (x ∷ es) n h =
+  one-has : (es : List Entry) → Has own last es → anyRecent own last es ≡ true
+  one-has [] h = absurd (List·Memᴰ·not-nil (h .named))
+  one-has (x ∷ es) h =
       ⊎-elim
-      (λ s. rw (← s, same-refl own, h .1))
-      (λ m. by-cases (miSame (x .mi) own && isRecent (x .mn) last) (λ b. rw b) (λ b. rw b (one-has es n (m, h .1))))
-      (List·Memᴰ·cases-cons (h .0))
+      (λ s. rw (← s, same-refl own, h .recent))
+      (λ m. by-cases (miSame (x .mi) own && isRecent (x .mn) last) (λ b. rw b) (λ b. rw b (one-has es (record { number = h .number; named = m; recent = h .recent }))))
+      (List·Memᴰ·cases-cons (h .named))
 
 or-true : (a b : Bool) → b ≡ true → a || b ≡ true
 or-true true b e = refl
@@ -52,19 +59,19 @@ module _ (p : Participant) (frame : List ℕ) where
   unfolding provesIn namedIn
   proves-lists = refl
 
-  pub proves-has : proves p frame ≡ true → (n : ℕ) × Has (p .mi) (p .mn) (listed frame) n
+  pub proves-has : proves p frame ≡ true → Has (p .mi) (p .mn) (listed frame)
   proves-has e =
       by-cases (anyRecent (p .mi) (p .mn) live)
-      (λ b. let r = has-one (p .mi) (p .mn) live b in (r .0, (Memᴰ·append-left potential (r .1 .0), r .1 .1)))
+      (λ b. let r = has-one (p .mi) (p .mn) live b in record { number = r .number; named = Memᴰ·append-left potential (r .named); recent = r .recent })
       (λ b.
       let z = sym proves-lists ∙ e in
       let r = has-one (p .mi) (p .mn) potential (rw b at z) in
-      (r .0, (Memᴰ·append-right live (r .1 .0), r .1 .1)))
+      record { number = r .number; named = Memᴰ·append-right live (r .named); recent = r .recent })
 
-  pub has-proves : (n : ℕ) → Has (p .mi) (p .mn) (listed frame) n → proves p frame ≡ true
-  has-proves n h =
+  pub has-proves : Has (p .mi) (p .mn) (listed frame) → proves p frame ≡ true
+  has-proves h =
       proves-lists
       ∙ ⊎-elim
-      (λ m. rw (one-has (p .mi) (p .mn) live n (m, h .1)))
-      (λ m. or-true (anyRecent (p .mi) (p .mn) live) _ (one-has (p .mi) (p .mn) potential n (m, h .1)))
-      (List·Memᴰ·append-cases live (h .0))
+      (λ m. rw (one-has (p .mi) (p .mn) live (record { number = h .number; named = m; recent = h .recent })))
+      (λ m. or-true (anyRecent (p .mi) (p .mn) live) _ (one-has (p .mi) (p .mn) potential (record { number = h .number; named = m; recent = h .recent })))
+      (List·Memᴰ·append-cases live (h .named))

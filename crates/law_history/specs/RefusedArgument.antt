@@ -1,6 +1,6 @@
 -- Why a refused call can be left out: it leaves the participant, and the later calls go on from there.
-use mathlib.Core.Path.{_≡_, ap, sym, _∙_}
-use mathlib.Core.List.{List, _∷_, _++_}
+use mathlib.Core.Path.{ap, sym, _∙_}
+use mathlib.Core.List.{_∷_}
 use Rattle.participant.specs.declared.Participant.{Participant}
 use Rattle.law_history.specs.Calls.{created, answerOf, played}
 use Rattle.law_history.specs.Splits.{from-append, after-refused}

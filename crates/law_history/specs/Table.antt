@@ -1,5 +1,5 @@
 -- The table after any history: at most 16 entries, no identifier twice, and never our own. Proved in TableArgument.
-use Prim.Native.Nat.{ℕ, _≤_}
+use Prim.Native.Nat.{_≤_}
 use mathlib.Core.Path.{_≡_}
 use mathlib.Core.List.{List, _∷_, _++_, List·Memᴰ}
 use lib.ListN.{length}

@@ -4,7 +4,6 @@ use mathlib.Core.Path.{_≡_, refl, ap, sym, _∙_}
 use mathlib.Core.Bool.{true}
 use mathlib.Core.List.{List, [], _∷_, _++_, List·Memᴰ·head, Memᴰ·append-right}
 use Rattle.table_expiry.specs.Kept.{Kept, absent, distinct}
-use Rattle.table.specs.Table.{entries}
 use Rattle.table_expiry.specs.Expiry.{expired}
 use Rattle.table.specs.declared.Peer.{Peer}
 use Rattle.law_lists.specs.Laws.{first-of, second-of}

@@ -1,8 +1,8 @@
 -- Why: what every call keeps of a participant is what sending asks of it, and fact 14 leaves its MN a next one.
 use Prim.Native.Nat.{ℕ, _+_, _^_, _≤_, _<_}
-use mathlib.Core.Path.{_≡_, refl, ap, sym, _∙_}
-use mathlib.Core.Bool.{true, false, _||_}
-use mathlib.Core.List.{List, [], _∷_, _++_}
+use mathlib.Core.Path.{_≡_}
+use mathlib.Core.Bool.{true, _||_}
+use mathlib.Core.List.{List, [], _∷_}
 use native.Mathlib.Omega.{arith}
 use lib.ListN.{length, drop}
 use lib.Dec.{eqb, ltb}
@@ -16,7 +16,7 @@ use Rattle.participant.specs.Keys.{noSlot}
 use Rattle.participant.specs.declared.Slot.{Slot}
 use Rattle.participant.specs.declared.Participant.{Participant}
 use Rattle.base_mi.specs.declared.Mi.{Mi}
-use Rattle.call_send.specs.Send.{frameAt, leftBy}
+use Rattle.call_send.specs.Send.{frameAt}
 use Rattle.call_send.proofs.Laws.{send-accepted}
 use Rattle.law_calls.specs.Passed.{send-passed}
 use Rattle.law_calls.specs.Never.{risen}

@@ -1,5 +1,4 @@
 -- The induction over histories of calls that carry what they can.
-use mathlib.Core.Path.{_≡_}
 use mathlib.Core.List.{List, [], _∷_, _++_}
 use Rattle.law_lists.specs.Laws.{by-cases}
 use Rattle.participant.specs.declared.Participant.{Participant}

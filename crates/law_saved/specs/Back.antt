@@ -16,7 +16,6 @@ use Rattle.base_mi.proofs.Laws.{Fitting}
 use Rattle.base_packed.specs.Bit.{bit}
 use Rattle.table.specs.Table.{entries}
 use Rattle.table_expiry.specs.Kept.{only}
-use Rattle.table.specs.declared.Peer.{Peer}
 use Rattle.table_expiry.proofs.Aging.{entries-tableOf, tidy-tableOf}
 use Rattle.law_lists.specs.Laws.{by-cases, first-of, second-of}
 use Rattle.participant.specs.Keys.{noSlot}
@@ -29,9 +28,9 @@ use Rattle.image_key.specs.Key.{keyOctets, slotOctets, keyAt, slotAt, slotClean
 use Rattle.image_peer.proofs.Laws.{length-peersAt}
 use Rattle.law_reread.specs.Fit.{FitPeer, FitPeers, FitKey, FitOwn}
 use Rattle.law_reread.specs.Cut.{cut, glue}
-use Rattle.law_reread.specs.Own.{own-back}
-use Rattle.law_reread.specs.Peer.{peers-back}
-use Rattle.law_reread.specs.Key.{key-back}
+use Rattle.law_reread.specs.OwnArgument.{own-back}
+use Rattle.law_reread.specs.PeerArgument.{peers-back}
+use Rattle.law_reread.specs.KeyArgument.{key-back}
 use Rattle.image_rules.specs.Rules.{rules}
 use Rattle.law_saved.specs.WellFormed.{TidySlot, WellFormed}
 use Rattle.image.specs.Image.{ownPart, peersPart, keysPart, imageOf}

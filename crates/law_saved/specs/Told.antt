@@ -25,9 +25,11 @@ use Rattle.image_peer.specs.Peer.{peersOctets, peersAt, peersClean}
 use Rattle.image_key.specs.Key.{keyOctets, slotOctets, slotAt, slotClean}
 use Rattle.image_own.proofs.Lengths.{length-own}
 use Rattle.law_reread.specs.Fit.{FitKey}
-use Rattle.law_reread.specs.Own.{alone, own-stands}
-use Rattle.law_reread.specs.Peer.{AllTold, peers-stand}
-use Rattle.law_reread.specs.Key.{key-stands}
+use Rattle.law_reread.specs.Own.{alone}
+use Rattle.law_reread.specs.OwnArgument.{own-stands}
+use Rattle.law_reread.specs.Peer.{AllTold}
+use Rattle.law_reread.specs.PeerArgument.{peers-stand}
+use Rattle.law_reread.specs.KeyArgument.{key-stands}
 use Rattle.table_expiry.specs.Kept.{only}
 use Rattle.image_rules.specs.Rules.{inRanges, twoBits, rules}
 use Rattle.law_saved.specs.WellFormed.{TidySlot, WellFormed}

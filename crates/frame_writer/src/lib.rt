@@ -1,4 +1,5 @@
 // A whole frame, written from a value that says which sets it has.
+use base_facts::Check;
 use base_mi::Mi;
 use base_mi::entry::Entries;
 use base_octets::run;
@@ -87,9 +88,9 @@ pub fn write(out: &mut [u8], m: Mkpdu) -> Wrote
     ensures { λ r. ⌜ (r ≡ wroteOf (length (frameOf m)) (length (now (out .entry)))) × (now (out .exit) ≡ written (now (out .entry)) (frameOf m)) ⌝ }
 {
     let total = frame_size(m);
-    if out.len() < total {
+    let Check::Passed = base_facts::fail_if(out.len() < total) else {
         return Wrote::Refused(13);
-    }
+    };
     let x = m.sender;
     let live = m.live;
     let potential = m.potential;

@@ -1,12 +1,14 @@
 -- Each call stores one part where the last one ended; `stored` joins them to the frame, `sets-whole` takes it apart from what stood past it.
 use Prim.Native.Nat.{ℕ, _-_, _≤_, _<_}
-use mathlib.Core.Path.{_≡_, ap, _∙_}
+use mathlib.Core.Path.{_≡_, ap, sym, _∙_}
 use native.Mathlib.Omega.{arith}
 use lib.Seq.{sets}
 use lib.ListN.{length}
+use lib.Dec.{ltb}
 use denote.Ref.{now}
-use borrow.Author.Tests.{lt-ltb, le-ltb}
+use borrow.Author.Tests.{ltb-true, ltb-false, lt-ltb, le-ltb}
 use borrow.Author.Needs.{needs}
+use Rattle.base_facts.proofs.Laws.{check-failed, check-passed}
 use Rattle.base_octets.specs.Run.{written}
 use Rattle.frame_writer.specs.Frame.{headerOctets, frameOf, bodyOctets}
 use Rattle.frame_writer.proofs.Laws.{length-frame, basic-le, entries-le, use-le}
@@ -18,11 +20,22 @@ use Rattle.frame_writer.proofs.write.Tie as tie
 frame-size-requires : tie.Need-frame-size-requires
 frame-size-requires c κs = search needs
 
+fail-if-requires : tie.Need-fail-if-requires
+fail-if-requires c κs = search needs
+
+enum-told : tie.Need-enum-told
+enum-told c = search needs
+
+enum-told-2 : tie.Need-enum-told-2
+enum-told-2 c = search needs
+
 returns : tie.Need-returns
 unfolding written
 returns c =
-    let a = c .before .before .before .args in
-    let short : length (now (a .out)) < length (frameOf (a .m)) = omega (arith, c .before .frame-size .ensures .0, c .if1 .taken) in
+    let size = c .before .before .before in
+    let a = size .before .before .args in
+    let held : length (now (a .out)) < size .frame-size .result = ltb-true _ _ (check-failed (ltb (length (now (a .out))) (size .frame-size .result)) (sym (c .before .before .fail-if .ensures) ∙ c .enum-told2 .given .1)) in
+    let short : length (now (a .out)) < length (frameOf (a .m)) = omega (arith, size .frame-size .ensures .0) in
     (rw (lt-ltb _ _ short), rw (lt-ltb _ _ short))
 
 sub-put-header : tie.Need-sub-put-header
@@ -40,14 +53,14 @@ put-basic-requires c κs = search needs
 put-list-requires : tie.Need-put-list-requires
 put-list-requires c κs =
     let basic = c .before .before .before in
-    let m = basic .before .before .before .before .before .before .before .before .before .before .before .before .before .before .args .m in
+    let m = basic .before .before .before .before .before .before .before .before .before .before .before .before .before .before .before .before .args .m in
     omega (arith, basic-le (m .sender), basic .put-basic .ensures .0)
 
 put-list-requires-2 : tie.Need-put-list-requires-2
 put-list-requires-2 c κs =
     let live = c .before .before .before in
     let basic = live .before .before .before .before in
-    let m = basic .before .before .before .before .before .before .before .before .before .before .before .before .before .before .args .m in
+    let m = basic .before .before .before .before .before .before .before .before .before .before .before .before .before .before .before .before .args .m in
     omega (
       arith,
       basic-le (m .sender),
@@ -61,7 +74,7 @@ put-use-requires c κs =
     let potential = c .before .before .before in
     let live = potential .before .before .before .before in
     let basic = live .before .before .before .before in
-    let m = basic .before .before .before .before .before .before .before .before .before .before .before .before .before .before .args .m in
+    let m = basic .before .before .before .before .before .before .before .before .before .before .before .before .before .before .before .before .args .m in
     omega (
       arith,
       basic-le (m .sender),
@@ -78,7 +91,7 @@ put-sak-requires c κs =
     let potential = used .before .before .before .before in
     let live = potential .before .before .before .before in
     let basic = live .before .before .before .before in
-    let m = basic .before .before .before .before .before .before .before .before .before .before .before .before .before .before .args .m in
+    let m = basic .before .before .before .before .before .before .before .before .before .before .before .before .before .before .before .before .args .m in
     omega (
       arith,
       basic-le (m .sender),
@@ -106,13 +119,15 @@ returns-2 c =
     let live = potential .before .before .before .before in
     let basic = live .before .before .before .before in
     let header = basic .before .before .before .before in
-    let tested = header .before .before .before .before .before .before .before in
-    let start = tested .before .before .before in
+    let told = header .before .before .before .before .before .before .before in
+    let size = told .before .before .before in
+    let start = size .before .before in
     let m = start .args .m in
     let l = now (start .args .out) in
-    let e : tested .before .frame-size .result ≡ length (frameOf m) = tested .before .frame-size .ensures .0 in
-    let k : tested .before .frame-size .result - 4 ≡ length (bodyOctets m) = omega (arith, length-frame m) in
-    let room : length (frameOf m) ≤ length l = omega (arith, tested .if1 .left) in
+    let e : size .frame-size .result ≡ length (frameOf m) = size .frame-size .ensures .0 in
+    let k : size .frame-size .result - 4 ≡ length (bodyOctets m) = omega (arith, length-frame m) in
+    let held : size .frame-size .result ≤ length l = ltb-false _ _ (check-passed (ltb (length l) (size .frame-size .result)) (sym (told .before .before .fail-if .ensures) ∙ told .enum-told .given .1)) in
+    let room : length (frameOf m) ≤ length l = omega arith in
     let s =
     stored l _ _ _ _ _ _ _ m _ _ _ _ _
     (basic .put-basic .ensures .0)
@@ -134,6 +149,9 @@ write-spec =
     tie.close
     (tie.spec
     frame-size-requires
+    fail-if-requires
+    enum-told
+    enum-told-2
     returns
     sub-put-header
     cast-put-header

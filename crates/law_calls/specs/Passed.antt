@@ -2,22 +2,23 @@
 use Prim.Native.Nat.{ℕ, _≤_}
 use mathlib.Core.Path.{_≡_}
 use mathlib.Core.Bool.{Bool, true, false}
-use mathlib.Core.List.{List, _∷_}
+use mathlib.Core.List.{List}
 use lib.ListN.{length}
 use lib.Dec.{eqb, ltb}
 use borrow.Author.Tests.{ltb-false, not-false}
+use Rattle.base_facts.specs.Numbers.{lastNumber}
 use Rattle.base_mi.specs.Mi.{miSame}
 use Rattle.base_mi.specs.declared.Mi.{Mi}
 use Rattle.table_lookup.specs.Look.{staleFor, noRoomFor}
-use Rattle.participant.specs.Call.{fact1, agedTo}
+use Rattle.participant.specs.Call.{agedTo}
 use Rattle.participant.specs.declared.Participant.{Participant}
 use Rattle.participant.proofs.Settle.{NoneHolds}
 use Rattle.call_questions.specs.Ask.{freshDue}
-use Rattle.call_changes.specs.Renew.{inUse}
+use Rattle.call_changes.specs.Renew.{inUse, newMiFacts}
+use Rattle.call_distribute.specs.Distribute.{distributeFacts}
 use Rattle.call_judge.specs.Judge.{basicIn, frameFacts}
 use Rattle.call_receive.specs.Receive.{heldAt, tableFacts, receiveFacts}
 use Rattle.call_send.specs.Send.{frameAt, sendFacts}
-use Rattle.law_calls.specs.Settled.{distributeFacts, newMiFacts}
 
 -- 1, and what is judged on the table: 10, 11, 12
 pub record ReceivePassed (p : Participant) (time : ℕ) (s : List ℕ) : Type 0 where
@@ -35,7 +36,7 @@ receive-passed p time verdict s h =
 -- 1, 14, 13
 pub record SendPassed (p : Participant) (time latestPn oldPn room : ℕ) : Type 0 where
   pub onward : p .clock ≤ time
-  pub mn : eqb (p .mn) 4294967295 ≡ false
+  pub mn : eqb (p .mn) lastNumber ≡ false
   pub fits : ltb room (length (frameAt p time latestPn oldPn)) ≡ false
 
 pub send-passed : (p : Participant) (time latestPn oldPn room : ℕ) → NoneHolds (sendFacts p time latestPn oldPn room) → SendPassed p time latestPn oldPn room
@@ -46,9 +47,9 @@ send-passed p time l o room h = record { onward = ltb-false time (p .clock) (h .
 pub record DistributePassed (p : Participant) (time : ℕ) : Type 0 where
   pub onward : p .clock ≤ time
   pub due : freshDue (agedTo p time) ≡ true
-  pub kn : eqb (p .kn) 4294967295 ≡ false
+  pub kn : eqb (p .kn) lastNumber ≡ false
 
-pub distribute-passed : (p : Participant) (time : ℕ) (w : List ℕ) → NoneHolds ((1, fact1 p time) ∷ distributeFacts p time w) → DistributePassed p time
+pub distribute-passed : (p : Participant) (time : ℕ) (w : List ℕ) → NoneHolds (distributeFacts p time w) → DistributePassed p time
 distribute-passed p time w h =
     record { onward = ltb-false time (p .clock) (h .0); due = not-false (freshDue (agedTo p time)) (h .1 .1 .0); kn = h .1 .1 .1 .0 }
 
@@ -57,5 +58,5 @@ pub record RenewPassed (p : Participant) (time : ℕ) (m : Mi) : Type 0 where
   pub onward : p .clock ≤ time
   pub unused : inUse p m ≡ false
 
-pub renew-passed : (p : Participant) (time : ℕ) (m : Mi) → NoneHolds ((1, fact1 p time) ∷ newMiFacts p m) → RenewPassed p time m
+pub renew-passed : (p : Participant) (time : ℕ) (m : Mi) → NoneHolds (newMiFacts p time m) → RenewPassed p time m
 renew-passed p time m h = record { onward = ltb-false time (p .clock) (h .0); unused = h .1 .0 }

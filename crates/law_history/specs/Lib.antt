@@ -21,3 +21,4 @@ pub mod Proving
 pub mod LiveArgument
 pub mod Keys
 pub mod KeysArgument
+pub mod Asked

@@ -1,8 +1,8 @@
--- "Bench cases": the starred ones as one table, and the one theorem over it.
+-- "Bench cases": the starred ones as one table, and the one theorem over it. Rows that take more computing stand in files of their own.
 use Prim.Native.Nat.{ℕ}
-use mathlib.Core.Path.{_≡_, refl}
+use mathlib.Core.Path.{refl}
 use mathlib.Core.Bool.{Bool, true, false}
-use mathlib.Core.List.{List, [], _∷_, _++_, map}
+use mathlib.Core.List.{List, [], _∷_, _++_}
 use lib.ListN.{replicate, set}
 use Rattle.base_octets.specs.Number.{beAt, beOf}
 use Rattle.base_octets.specs.Run.{written}
@@ -25,7 +25,6 @@ use Rattle.frame_writer.specs.Frame.{headerOctets, fixedOctets, cknOctets, basi
 use Rattle.call_questions.specs.Ask.{serverOf, electedSelf}
 use Rattle.participant.specs.Call.{agedTo, ticked}
 use Rattle.call_creation.specs.Create.{fresh, emptyParticipant, createdOf}
-use Rattle.participant.specs.Record.{setMn}
 use Rattle.participant.specs.Keys.{noSlot, ofMember}
 use Rattle.participant.specs.declared.Participant.{Participant}
 use Rattle.call_judge.specs.Judge.{frameFacts}
@@ -39,10 +38,13 @@ use Rattle.image_layout.specs.Layout as layout
 use Rattle.image_own.specs.Own.{namedOctets, timesOctets, keptOctets, ownOctets}
 use Rattle.image_peer.specs.Peer.{peersOctets}
 use Rattle.image.specs.Image.{ownPart, peersPart, keysPart, imageOf}
-use Rattle.law_history.specs.Calls.{Call, created, toCall, toReceive, receives, sends, ticks, after}
-use Rattle.law_cases.specs.Row.{Row, row, Outcome, accepted, refused, octets, number, yes-no, elects, ended, basicEnded}
+use Rattle.law_history.specs.Calls.{Call, created, toCall, receives, sends, ticks, after}
+use Rattle.law_cases.specs.Row.{Row, row, Right, both, Outcome, accepted, refused, octets, number, yes-no, elects, ended, basicEnded}
 use Rattle.law_cases.specs.Image.{imageCases}
-use Rattle.law_cases.specs.Setting.{twelve, ofPriority, case1, first, frame, naming, sentOnce, crowded, comes, isLive, live, potential}
+use Rattle.law_cases.specs.Shown.{shownCases, shownCases-right}
+use Rattle.law_cases.specs.Echoes.{cases3, cases3-right}
+use Rattle.law_cases.specs.Crowd.{cases8, cases8-right}
+use Rattle.law_cases.specs.Setting.{twelve, ofPriority, case1, first, frame, naming, sendings, comes, live, potential}
 
 -- "MI 11 twelve times, SCI 02-00-00-00-00-01-00-01, .." is accepted, and its image begins as it says.
 abbrev pub cases1 : List Row
@@ -66,21 +68,9 @@ cases2 =
     ∷ row 2 (octets (replicate 55 0xff)) (octets (leftBy first 0 0 0 (replicate 55 0xff)))
     ∷ []
 
--- "Last sent 7: echoes 4 to 7 are recent, 3 and 8 not. Last sent 2: 1 and 2 are, 0 not.": by the definition, and by who is Live after such an echo
-abbrev pub echo : ℕ → ℕ → Bool → List Row
-echo last mn recent =
-    row 3 (yes-no recent) (yes-no (isRecent mn last))
-    ∷ row 3 (yes-no recent) (yes-no (isLive (receivedOf (setMn last first) 0 true (frame 0x22 2 16 1 (naming mn)) .participant)))
-    ∷ []
-
-abbrev pub cases3 : List Row
-cases3 =
-    echo 7 4 true ++ (echo 7 5 true ++ (echo 7 6 true ++ (echo 7 7 true ++ (echo 7 3 false ++ (echo 7 8 false
-    ++ (echo 2 1 true ++ (echo 2 2 true ++ echo 2 0 false)))))))
-
 -- "Proof at 1,000: Live at 6,999, not at 7,000.": also where a frame without our number came in between, which only keeps the entry
 abbrev pub proof : List Call
-proof = receives 1000 true (frame 0x22 2 16 1 (naming 1)) ∷ sentOnce
+proof = receives 1000 true (frame 0x22 2 16 1 (naming 1)) ∷ sendings 1
 
 abbrev pub keptAlive : List Call
 keptAlive = receives 2000 true (frame 0x22 2 16 2 []) ∷ proof
@@ -112,7 +102,7 @@ abbrev pub peer : ℕ → ℕ → ℕ → Call
 peer m port priority = receives 0 true (frame m port priority 1 (naming 1))
 
 abbrev pub beside : ℕ → List Call → Participant
-beside own peers = after (ofPriority own) (peers ++ sentOnce)
+beside own peers = after (ofPriority own) (peers ++ sendings 1)
 
 abbrev pub chosen : ℕ → List Call → Outcome
 chosen own peers = elects (serverOf (beside own peers))
@@ -143,27 +133,20 @@ cases7 =
     ∷ row 7 (refused 9) (comes [] (receives 0 true (frame 0x22 2 16 1 (2 ∷ 0 ∷ 0 ∷ 8 ∷ replicate 8 0x11))))
     ∷ []
 
--- "Seventeenth MI: 12; if one of the sixteen expires at that time, accepted.": they came one every millisecond from 0 on
-abbrev pub arriving : ℕ → ℕ → Outcome
-arriving held time = ended (toReceive (receivedOf (crowded held) time true (frame 0x22 2 16 1 []) .answer))
-
-abbrev pub cases8 : List Row
-cases8 =
-    row 8 accepted (arriving 15 16)
-    ∷ row 8 (refused 12) (arriving 16 16)
-    ∷ row 8 (refused 12) (arriving 16 5999)
-    ∷ row 8 accepted (arriving 16 6000)
-    ∷ []
+abbrev pub others : List Row
+others = cases1 ++ (cases2 ++ (cases4 ++ (cases5 ++ (cases6 ++ cases7))))
 
 abbrev pub bench : List Row
-bench = cases1 ++ (cases2 ++ (cases3 ++ (cases4 ++ (cases5 ++ (cases6 ++ (cases7 ++ cases8))))))
+bench = others ++ (shownCases ++ (cases3 ++ cases8))
 
--- Every row's definitions give what the case says.
-pub all-cases : map (λ r. r .given) bench ≡ map (λ r. r .expected) bench
+others-right : Right others
 unfolding created createdOf fresh emptyParticipant noSlot emptyTable beAt beOf written miOctets basicFields basicOf miAt liveList potentialList liveCount elected
     headerOctets fixedOctets cknOctets basicOctets listSet listOctets bodyOctets frameOf serverOf electedSelf agedTo expired ofMember keyUseOf
     serverFlag handsOut senderOf sakOf messageOf frameAt sendFacts sentAt sentOf leftBy sameAt fact6 holds placesWith lenAt listLen badBody badShape
     badHead badSet extentOf entryAt entriesFrom listAt entriesIn walkGo walkFrom walkOf heldIn updated replaced enteredAt pushed frameFacts keyedOf
     isRecent namedIn provesIn heardOf admitted tableFacts receiveFacts updatedBy acceptedBy receivedOf ticked headOf entryOf
     layout.entriesFrom bodies laidOf namedOctets timesOctets keptOctets ownOctets peersOctets ownPart peersPart keysPart imageOf
-all-cases = refl
+others-right = refl
+
+pub all-cases : Right bench
+all-cases = both others (shownCases ++ (cases3 ++ cases8)) others-right (both shownCases (cases3 ++ cases8) shownCases-right (both cases3 cases8 cases3-right cases8-right))

@@ -1,7 +1,8 @@
 -- A row of the table of bench cases: the case's number, what document 01 says comes out, and what the definitions give.
 use Prim.Native.Nat.{ℕ}
 use mathlib.Core.Bool.{Bool}
-use mathlib.Core.List.{List}
+use mathlib.Core.Path.{_≡_, refl, sym, _∙_, ap₂}
+use mathlib.Core.List.{List, [], _∷_, _++_, map, map-append}
 use Rattle.frame.specs.declared.BasicRead.{BasicRead}
 use Rattle.frame.specs.declared.BasicRead.the-variants as onBasic
 use Rattle.table_election.specs.declared.Server.{Server}
@@ -27,6 +28,22 @@ pub record Row : Type 0 where
 
 abbrev pub row : ℕ → Outcome → Outcome → Row
 row n e g = record { no = n; expected = e; given = g }
+
+-- Every row's definitions give what the case says.
+abbrev pub Right : List Row → Type 0
+Right rs = map (λ (r : Row). r .given) rs ≡ map (λ (r : Row). r .expected) rs
+
+pub both : (rs rs′ : List Row) → Right rs → Right rs′ → Right (rs ++ rs′)
+both rs rs′ h h′ = map-append (λ (r : Row). r .given) rs rs′ ∙ (ap₂ _++_ h h′ ∙ sym (map-append (λ (r : Row). r .expected) rs rs′))
+
+-- The same row by row, which is computed in fewer steps.
+abbrev pub Each : List Row → Type 0
+Each [] = Unit {0}
+Each (r ∷ rs) = (r .given ≡ r .expected) × Each rs
+
+pub each : (rs : List Row) → Each rs → Right rs
+each [] h = refl
+each (r ∷ rs) h = ap₂ _∷_ (h .0) (each rs (h .1))
 
 -- How a call comes out.
 abbrev pub ended : Answer → Outcome

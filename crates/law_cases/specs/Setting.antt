@@ -4,12 +4,9 @@ use mathlib.Core.Bool.{Bool, true, false}
 use mathlib.Core.List.{List, [], _∷_, _++_}
 use lib.ListN.{length, replicate}
 use Rattle.base_mi.specs.declared.Mi.{Mi}
-use Rattle.table.specs.Table.{tableOf}
-use Rattle.table.specs.declared.Peer.{Peer}
 use Rattle.table_lookup.specs.Look.{heldIn, liveFor, potentialFor}
-use Rattle.participant.specs.Record.{setClock, setTable}
 use Rattle.participant.specs.declared.Participant.{Participant}
-use Rattle.law_history.specs.Calls.{Creation, Call, sends, after, answerOf}
+use Rattle.law_history.specs.Calls.{Creation, Call, receives, sends, after, answerOf}
 use Rattle.law_cases.specs.Row.{Outcome, yes-no, ended}
 
 -- "MI 11 twelve times": the MI of one octet, twelve times
@@ -48,29 +45,15 @@ frame m port priority mn further =
 abbrev pub naming : ℕ → List ℕ
 naming n = 1 ∷ 0 ∷ 0 ∷ 16 ∷ (replicate 12 0x11 ++ (0 ∷ 0 ∷ 0 ∷ n ∷ []))
 
--- one send, into 56 octets of ones
-abbrev pub sentOnce : List Call
-sentOnce = sends 0 0 0 (replicate 56 0xff) ∷ []
+-- n sends, each into 56 octets of ones
+abbrev pub sendings : ℕ → List Call
+sendings zero = []
+sendings (suc n) = sends 0 0 0 (replicate 56 0xff) ∷ sendings n
 
--- n Potential peers, one every millisecond from 0 on
-abbrev pub crowd : ℕ → List Peer
-crowd zero = []
-crowd (suc n) = crowd n ++ (record {
-  mi = twelve (0x80 + n);
-  mn = 1;
-  sci = 0x0200000000010002;
-  accepted = n;
-  proof = 0;
-  priority = 16;
-  capability = 2;
-  server = true;
-  desired = true;
-  proven = false;
-} ∷ [])
-
--- Case 1's participant at the time n, with them.
-abbrev pub crowded : ℕ → Participant
-crowded n = setClock n (setTable (tableOf (crowd n)) first)
+-- n peers that name nobody, one every millisecond from 0 on
+abbrev pub comers : ℕ → List Call
+comers zero = []
+comers (suc n) = receives n true (frame (0x80 + n) 2 16 1 []) ∷ comers n
 
 -- How a call after the others comes out.
 abbrev pub comes : List Call → Call → Outcome

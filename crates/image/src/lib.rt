@@ -1,4 +1,5 @@
 // The saved port image of a participant, written.
+use base_facts::Check;
 use base_packed::bit;
 use frame_writer::Wrote;
 use participant::Participant;
@@ -41,9 +42,9 @@ pub fn write(out: &mut [u8], p: Participant) -> Wrote
     let keys = 144 + n as u32 * 44;
     let next = keys + key_size(latest);
     let total = (next + key_size(old)) as usize;
-    if out.len() < total {
+    let Check::Passed = base_facts::fail_if(out.len() < total) else {
         return Wrote::Refused(13);
-    }
+    };
     put_contents(out, n, bit::bit_of(latest.held) + bit::bit_of(old.held));
     image_own::put_own(out, 28, p);
     image_peer::put_peers(out, 144, t);

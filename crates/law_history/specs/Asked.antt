@@ -13,7 +13,7 @@ use Rattle.participant.specs.Record.{setTable}
 use Rattle.participant.specs.Call.{agedTo}
 use Rattle.call_questions.specs.Ask.{serverOf, electedSelf, freshDue, atClock, askedServer, askedElected, askedFresh, askedLive, askedPotential, askedLives, askedPotentials}
 use Rattle.law_history.specs.Calls.{Creation, Call, after}
-use Rattle.law_history.specs.Table.{keeps}
+use Rattle.law_history.specs.TableArgument.{keeps}
 
 -- What the questions answer where expiry would leave the participant as it is.
 pub record AsItStands (p : Participant) : Type 0 where

@@ -14,6 +14,8 @@ use Rattle.frame_walk.proofs as frame_walk
 use Rattle.frame_walk.specs.Walk.{walkOf}
 use Rattle.call_creation.proofs as call_creation
 use Rattle.call_changes.proofs as call_changes
+use Rattle.call_questions.proofs as call_questions
+use Rattle.call_questions.specs.Ask.{askedServer, askedElected, askedFresh, helloDue, askedLive, askedPotential, askedLives, askedPotentials}
 use Rattle.call_distribute.proofs as call_distribute
 use Rattle.call_receive.proofs as call_receive
 use Rattle.call_send.proofs as call_send
@@ -100,3 +102,28 @@ read κs a z e h = h
 
 pub show : Answers page_shown.show.Kinds.ps page_shown.show.Kinds.r page_shown.show.Reads.Learnt (λ κs (image, _). shownOf (now image))
 show κs a z e h = h
+
+-- The questions, of the participant that `asks` shows; `Asked` of law_history says what they are of one that calls reached.
+pub server : Answers call_questions.server.Kinds.ps call_questions.server.Kinds.r call_questions.server.Reads.Learnt (λ κs (p, _). askedServer p)
+server κs a z e h = h
+
+pub elected-self : Answers call_questions.elected_self.Kinds.ps call_questions.elected_self.Kinds.r call_questions.elected_self.Reads.Learnt (λ κs (p, _). askedElected p)
+elected-self κs a z e h = h
+
+pub fresh-due : Answers call_questions.fresh_due.Kinds.ps call_questions.fresh_due.Kinds.r call_questions.fresh_due.Reads.Learnt (λ κs (p, _). askedFresh p)
+fresh-due κs a z e h = h
+
+pub hello-due : Answers call_questions.hello_due.Kinds.ps call_questions.hello_due.Kinds.r call_questions.hello_due.Reads.Learnt (λ κs (p, _). helloDue p)
+hello-due κs a z e h = h
+
+pub is-live : Answers call_questions.is_live.Kinds.ps call_questions.is_live.Kinds.r call_questions.is_live.Reads.Learnt (λ κs (p, (m, _)). askedLive p m)
+is-live κs a z e h = h
+
+pub is-potential : Answers call_questions.is_potential.Kinds.ps call_questions.is_potential.Kinds.r call_questions.is_potential.Reads.Learnt (λ κs (p, (m, _)). askedPotential p m)
+is-potential κs a z e h = h
+
+pub live-count : Answers call_questions.live_count.Kinds.ps call_questions.live_count.Kinds.r call_questions.live_count.Reads.Learnt (λ κs (p, _). askedLives p)
+live-count κs a z e h = h
+
+pub potential-count : Answers call_questions.potential_count.Kinds.ps call_questions.potential_count.Kinds.r call_questions.potential_count.Reads.Learnt (λ κs (p, _). askedPotentials p)
+potential-count κs a z e h = h

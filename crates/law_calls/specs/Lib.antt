@@ -1,7 +1,10 @@
 pub mod Settled
 pub mod Fields
+pub mod FieldsArgument
 pub mod Received
+pub mod ReceivedArgument
 pub mod Passed
 pub mod Never
+pub mod NeverArgument
 pub mod KeyRecord
 pub mod KeyRecordArgument

@@ -22,7 +22,7 @@ use Rattle.call_distribute.specs.Distribute.{withFresh}
 use Rattle.participant.specs.Keys.{withKey}
 use Rattle.participant.specs.declared.Participant.{Participant}
 use Rattle.participant.proofs.Settle.{NoneHolds}
-use Rattle.law_calls.specs.Fields.{create-empty}
+use Rattle.law_calls.specs.FieldsArgument.{create-empty}
 use Rattle.law_calls.specs.Passed.{receive-passed}
 use Rattle.call_judge.specs.Judge.{basicIn}
 use Rattle.call_receive.specs.Receive.{heardOf}

@@ -11,7 +11,7 @@ use borrow.Author.Tests.{not-true, eqb-true, eqb-false, ne-eqb, leb-true, le-leb
 use Rattle.law_lists.specs.Laws.{by-cases, first-of, second-of}
 use Rattle.participant.specs.declared.Participant.{Participant}
 use Rattle.participant.proofs.Settle.{NoneHolds}
-use Rattle.law_calls.specs.Fields.{create-empty}
+use Rattle.law_calls.specs.FieldsArgument.{create-empty}
 use Rattle.law_calls.specs.Passed.{send-passed}
 use Rattle.call_hearing.specs.Proof.{window, isRecent}
 use Rattle.law_history.specs.Calls.{Creation, created, Call, receives, sends, distributes, ticks, renews, reports, asks, saves, after, accepts, wrote, numbersSent}

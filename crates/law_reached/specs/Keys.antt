@@ -24,9 +24,9 @@ use Rattle.participant.specs.declared.Slot.{Slot}
 use Rattle.participant.specs.declared.Participant.{Participant}
 use Rattle.participant.specs.declared.call.Answer.the-variants.{Done}
 use Rattle.participant.proofs.Settle.{NoneHolds}
-use Rattle.law_calls.specs.Fields.{an-below}
+use Rattle.law_calls.specs.FieldsArgument.{an-below}
 use Rattle.law_calls.specs.Passed.{receive-passed, distribute-passed, renew-passed}
-use Rattle.law_calls.specs.Never.{risen}
+use Rattle.law_calls.specs.NeverArgument.{risen}
 use Rattle.call_judge.specs.Judge.{basicIn}
 use Rattle.call_hearing.specs.Keys.{isKnown, keyFrom, keyedOf}
 use Rattle.call_receive.specs.Receive.{admitted, updatedBy, acceptedBy}

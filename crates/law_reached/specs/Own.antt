@@ -23,7 +23,7 @@ use Rattle.participant.specs.declared.call.Answer.the-variants.{Done}
 use Rattle.participant.proofs.Settle.{NoneHolds, on-done}
 use Rattle.law_calls.specs.Settled.{create-settles}
 use Rattle.law_calls.specs.Passed.{send-passed, distribute-passed}
-use Rattle.law_calls.specs.Never.{risen}
+use Rattle.law_calls.specs.NeverArgument.{risen}
 use Rattle.call_receive.specs.Receive.{admitted, updatedBy}
 use Rattle.call_send.specs.Send.{sentAt}
 use Rattle.image_rules.specs.Rules.{zeros, unsentZero, undistributedZero, unusedZero}

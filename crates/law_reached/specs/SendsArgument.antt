@@ -19,7 +19,7 @@ use Rattle.base_mi.specs.declared.Mi.{Mi}
 use Rattle.call_send.specs.Send.{frameAt}
 use Rattle.call_send.proofs.Laws.{send-accepted}
 use Rattle.law_calls.specs.Passed.{send-passed}
-use Rattle.law_calls.specs.Never.{risen}
+use Rattle.law_calls.specs.NeverArgument.{risen}
 use Rattle.law_reread.specs.Fit.{FitPeers}
 use Rattle.law_sends.specs.Sendable.{GoodPeers, GoodSlot, Sendable}
 use Rattle.law_sends.specs.SentArgument.{sends-read-back}

@@ -1,22 +1,21 @@
 -- A Distributed SAK set that the walk over a frame finds and that isn't empty: it stands in the frame and its KN is not 0.
 use Prim.Native.Nat.{ℕ, zero, suc, _+_, _-_, _^_, _<_}
 use mathlib.Core.Path.{_≡_}
-use mathlib.Core.Bool.{true, false, not, _||_, _&&_}
+use mathlib.Core.Bool.{true, false}
 use mathlib.Core.List.{List}
 use native.Mathlib.Omega.{arith}
 use lib.ListN.{length, getD}
-use lib.Dec.{ltb, leb, eqb}
-use borrow.Author.Tests.{eqb-true, lt-leb, not-true, not-false}
-use Rattle.base_facts.specs.Facts.{paddedOf}
+use lib.Dec.{leb, eqb}
+use borrow.Author.Tests.{eqb-true, lt-leb}
 use Rattle.base_octets.specs.Number.{beAt}
 use Rattle.base_octets.proofs.Laws.{Octets, beAt-lt}
 use Rattle.frame_sets.specs.Kinds.{sakAt, sakIn}
 use Rattle.frame_places.specs.Once.{noPlaces, placesWith}
-use Rattle.frame_sets.specs.Set.{lenAt, badSet}
+use Rattle.frame_sets.specs.Set.{badSet}
 use Rattle.frame_places.specs.declared.Places.{Places}
 use Rattle.frame_sets.proofs.Laws.{head-room, good-head, good-numbered}
 use Rattle.frame_walk.specs.Walk.{nextAt, placesAfter, walkGo, walkFrom, walkOf}
-use Rattle.law_lists.specs.Laws.{by-cases, clash, second-of}
+use Rattle.law_lists.specs.Laws.{by-cases, clash}
 use Rattle.call_judge.specs.Judge.{basicIn, placesIn}
 use Rattle.law_history.specs.Keys.{sakSpot, sakRead}
 

@@ -1,7 +1,7 @@
 -- "A new MI empties the table, sets MN and KN to 0, and clears the mark, the wrapped key and both send and SAK times. Keys stay."
 use Prim.Native.Nat.{ℕ}
 use mathlib.Core.Bool.{Bool, false, _||_}
-use mathlib.Core.List.{[], _∷_}
+use mathlib.Core.List.{List, [], _∷_}
 use lib.ListN.{replicate}
 use Rattle.base_mi.specs.Mi.{miSame}
 use Rattle.base_mi.specs.declared.Mi.{Mi}
@@ -21,5 +21,8 @@ renewed p time m =
     setTable emptyTable (setMn 0 (setKn 0 (setMark false (setWrapped (replicate 24 0) (setSent 0 (setDistributed 0 (setMi m (setClock time p))))))))
 
 -- Taking a new MI: 1, 19.
+abbrev pub newMiFacts : Participant → ℕ → Mi → List (ℕ × Bool)
+newMiFacts p time m = (1, fact1 p time) ∷ (19, inUse p m) ∷ []
+
 unfoldable pub newMiOf : Participant → ℕ → Mi → Called
-newMiOf p time m = settle p ((1, fact1 p time) ∷ (19, inUse p m) ∷ []) (renewed p time m)
+newMiOf p time m = settle p (newMiFacts p time m) (renewed p time m)

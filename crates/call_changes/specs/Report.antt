@@ -1,7 +1,7 @@
 -- "An installation report names MI and KN and sets receive, or transmit, on the latest key; repeating one is accepted."
 use Prim.Native.Nat.{ℕ}
 use mathlib.Core.Bool.{Bool, cond, true, not, _||_, _&&_}
-use mathlib.Core.List.{[], _∷_}
+use mathlib.Core.List.{List, [], _∷_}
 use Rattle.base_mi.specs.declared.Mi.{Mi}
 use Rattle.participant.specs.declared.Slot.{Slot}
 use Rattle.participant.specs.declared.Participant.{Participant}
@@ -30,5 +30,8 @@ installed s transmit =
     }
 
 -- Installation report: 18.
+abbrev pub reportFacts : Participant → Mi → ℕ → Bool → List (ℕ × Bool)
+reportFacts p m kn transmit = (18, misreported (p .latest) m kn transmit) ∷ []
+
 unfoldable pub reported : Participant → Mi → ℕ → Bool → Called
-reported p m kn transmit = settle p ((18, misreported (p .latest) m kn transmit) ∷ []) (setLatest (installed (p .latest) transmit) p)
+reported p m kn transmit = settle p (reportFacts p m kn transmit) (setLatest (installed (p .latest) transmit) p)

@@ -1,9 +1,10 @@
 -- "Distributing adds 1 to KN, takes AN .., confidentiality .., clears the mark, and keeps the time and the wrapped key."
 use Prim.Native.Nat.{ℕ, _+_, _%_}
-use mathlib.Core.Bool.{false, cond, not}
+use mathlib.Core.Bool.{Bool, false, cond, not}
 use mathlib.Core.List.{List, [], _∷_}
 use lib.ListN.{length}
 use lib.Dec.{eqb}
+use Rattle.base_facts.specs.Facts.{lastNumber}
 use Rattle.participant.specs.declared.Key.{Key}
 use Rattle.participant.specs.declared.Slot.{Slot}
 use Rattle.participant.specs.declared.Participant.{Participant}
@@ -37,10 +38,14 @@ freshKey p =
 unfoldable pub withFresh : Participant → List ℕ → Participant
 withFresh p wrapped = setKn (p .kn + 1) (setMark false (setDistributed (p .clock) (setWrapped wrapped (withKey p (freshKey p)))))
 
--- Distribute: 1, 15, 17, 14.
+-- Distribute: 1, 15, 17, 14. 17 is "judged at the call's time, on the table as expiry would then make it".
+abbrev pub distributeFacts : Participant → ℕ → List ℕ → List (ℕ × Bool)
+distributeFacts p time wrapped =
+    (1, fact1 p time)
+    ∷ (15, not (eqb (length wrapped) 24))
+    ∷ (17, not (freshDue (agedTo p time)))
+    ∷ (14, eqb (p .kn) lastNumber)
+    ∷ []
+
 unfoldable pub distributedOf : Participant → ℕ → List ℕ → Called
-distributedOf p time wrapped =
-    let q = agedTo p time in
-    settle p
-    ((1, fact1 p time) ∷ (15, not (eqb (length wrapped) 24)) ∷ (17, not (freshDue q)) ∷ (14, eqb (p .kn) 4294967295) ∷ [])
-    (withFresh q (first24 wrapped))
+distributedOf p time wrapped = settle p (distributeFacts p time wrapped) (withFresh (agedTo p time) (first24 wrapped))

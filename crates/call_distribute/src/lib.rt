@@ -1,6 +1,7 @@
 // Distributing a fresh SAK: refusals 1, 15, 17, 14.
 use base_facts::Check;
 use base_octets::run;
+use call_questions::standing;
 use participant::Key;
 use participant::Participant;
 use participant::Slot;
@@ -77,7 +78,7 @@ pub fn distribute(p: Participant, time: u64, wrapped: &[u8]) -> Called
         return call::refused(p, 15);
     };
     let q = call::aged_to(p, time);
-    let Check::Passed = base_facts::fail_if(!call_questions::fresh_due(q)) else {
+    let Check::Passed = base_facts::fail_if(!standing::fresh_due(q)) else {
         return call::refused(p, 17);
     };
     let Check::Passed = base_facts::fail_if(p.kn == 4294967295) else {

@@ -1,67 +1,38 @@
 // The questions, which go by the clock and change nothing.
 use base_mi::Mi;
 use participant::Participant;
-use table_election::Rank;
+use participant::call;
 use table_election::Server;
 ghost use mathlib.Core.Path.{_≡_};
-ghost use Rattle.table_counts.specs.Counts.{liveCount, potentialCount};
-ghost use Rattle.table_lookup.specs.Look.{heldIn, liveFor, potentialFor};
-ghost use Rattle.call_questions.specs.Ask.{ownRank, serverOf, electedSelf, pauseOver, freshDue, helloDue};
+ghost use Rattle.call_questions.specs.Ask.{atClock, askedServer, askedElected, askedFresh, askedLive, askedPotential, askedLives, askedPotentials, helloDue};
+
+pub mod standing;
 
 // The hello time in milliseconds.
 pub const HELLO: u64 = 2000;
 
-fn own_rank(p: Participant) -> Rank
-    ensures { λ r. ⌜ r ≡ ownRank p ⌝ }
+fn at_clock(p: Participant) -> Participant
+    ensures { λ r. ⌜ r ≡ atClock p ⌝ }
 {
-    let mi = p.mi;
-    Rank {
-        priority: p.priority,
-        sci: p.sci,
-        mi,
-    }
+    call::aged_to(p, p.clock)
 }
 
 pub fn server(p: Participant) -> Server
-    ensures { λ r. ⌜ r ≡ serverOf p ⌝ }
+    ensures { λ r. ⌜ r ≡ askedServer p ⌝ }
 {
-    let t = p.table;
-    table_election::elect(t, own_rank(p))
+    standing::server(at_clock(p))
 }
 
 pub fn elected_self(p: Participant) -> bool
-    ensures { λ r. ⌜ r ≡ electedSelf p ⌝ }
+    ensures { λ r. ⌜ r ≡ askedElected p ⌝ }
 {
-    match server(p) {
-        Server::Nobody => false,
-        Server::Ourselves => true,
-        Server::Elected(_) => false,
-    }
-}
-
-// KN is 0, or the life time has passed since our last distribution, or no peer is Potential.
-fn pause_over(p: Participant) -> bool
-    ensures { λ r. ⌜ r ≡ pauseOver p ⌝ }
-{
-    if p.kn == 0 {
-        return true;
-    }
-    if !table_expiry::fresh(p.clock, p.distributed) {
-        return true;
-    }
-    let table = p.table;
-    table_counts::potential_count(table) == 0
+    standing::elected_self(at_clock(p))
 }
 
 pub fn fresh_due(p: Participant) -> bool
-    ensures { λ r. ⌜ r ≡ freshDue p ⌝ }
+    ensures { λ r. ⌜ r ≡ askedFresh p ⌝ }
 {
-    if elected_self(p) {
-        if p.mark {
-            return pause_over(p);
-        }
-    }
-    false
+    standing::fresh_due(at_clock(p))
 }
 
 pub fn hello_due(p: Participant) -> bool
@@ -77,31 +48,35 @@ pub fn hello_due(p: Participant) -> bool
 }
 
 pub fn is_live(p: Participant, m: Mi) -> bool
-    ensures { λ r. ⌜ r ≡ liveFor (heldIn m (p .table)) ⌝ }
+    ensures { λ r. ⌜ r ≡ askedLive p m ⌝ }
 {
-    let t = p.table;
+    let q = at_clock(p);
+    let t = q.table;
     let h = table_lookup::look(t, m);
     table_lookup::live(h)
 }
 
 pub fn is_potential(p: Participant, m: Mi) -> bool
-    ensures { λ r. ⌜ r ≡ potentialFor (heldIn m (p .table)) ⌝ }
+    ensures { λ r. ⌜ r ≡ askedPotential p m ⌝ }
 {
-    let t = p.table;
+    let q = at_clock(p);
+    let t = q.table;
     let h = table_lookup::look(t, m);
     table_lookup::potential(h)
 }
 
 pub fn live_count(p: Participant) -> usize
-    ensures { λ r. ⌜ r ≡ liveCount (p .table) ⌝ }
+    ensures { λ r. ⌜ r ≡ askedLives p ⌝ }
 {
-    let t = p.table;
+    let q = at_clock(p);
+    let t = q.table;
     table_counts::live_count(t)
 }
 
 pub fn potential_count(p: Participant) -> usize
-    ensures { λ r. ⌜ r ≡ potentialCount (p .table) ⌝ }
+    ensures { λ r. ⌜ r ≡ askedPotentials p ⌝ }
 {
-    let t = p.table;
+    let q = at_clock(p);
+    let t = q.table;
     table_counts::potential_count(t)
 }

@@ -4,7 +4,7 @@ use mathlib.Core.Bool.{Bool, cond}
 use mathlib.Core.List.{List, [], _∷_}
 use lib.ListN.{length}
 use lib.Dec.{ltb, eqb}
-use Rattle.base_facts.specs.Facts.{firstOf}
+use Rattle.base_facts.specs.Facts.{lastNumber, firstOf}
 use Rattle.base_octets.specs.Run.{written}
 use Rattle.frame_writer.specs.Frame.{frameOf}
 use Rattle.participant.specs.Record.{setMn, setSent}
@@ -21,7 +21,7 @@ frameAt p time latestPn oldPn = frameOf (messageOf (agedTo p time) latestPn oldP
 -- 14: "sending with MN .. already 4,294,967,295"; 13: "lent output too short for the whole output"
 unfoldable pub sendFacts : Participant → ℕ → ℕ → ℕ → ℕ → List (ℕ × Bool)
 sendFacts p time latestPn oldPn room =
-    (1, fact1 p time) ∷ (14, eqb (p .mn) 4294967295) ∷ (13, ltb room (length (frameAt p time latestPn oldPn))) ∷ []
+    (1, fact1 p time) ∷ (14, eqb (p .mn) lastNumber) ∷ (13, ltb room (length (frameAt p time latestPn oldPn))) ∷ []
 
 abbrev pub refusedOf : Participant → ℕ → Sent
 refusedOf p n = record { participant = p; answer = Refused n }

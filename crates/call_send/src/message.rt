@@ -1,5 +1,6 @@
 // What the next frame says.
 use base_mi::Mi;
+use call_questions::standing;
 use frame_sets::kinds::KeyUse;
 use frame_sets::kinds::SakUse;
 use frame_writer::Mkpdu;
@@ -42,7 +43,7 @@ fn key_use(s: Slot, pn: u32) -> KeyUse
 fn server_flag(p: Participant) -> bool
     ensures { λ r. ⌜ r ≡ serverFlag p ⌝ }
 {
-    match call_questions::server(p) {
+    match standing::server(p) {
         Server::Nobody => true,
         Server::Ourselves => true,
         Server::Elected(_) => false,
@@ -56,7 +57,7 @@ fn hands_out(p: Participant) -> bool
     let latest = p.latest;
     let own = p.mi;
     if keys::of_member(latest, own) {
-        if call_questions::elected_self(p) {
+        if standing::elected_self(p) {
             return !p.mark;
         }
     }

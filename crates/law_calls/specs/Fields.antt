@@ -17,11 +17,11 @@ use Rattle.participant.specs.Record.{first24, setMi, setMn, setMark, setClock, 
 use Rattle.participant.specs.Call.{settle, fact1, agedTo, ticked}
 use Rattle.call_creation.specs.Create.{badStart, fresh, emptyParticipant, createdOf}
 use Rattle.participant.specs.Keys.{noSlot, slotOf, withKey}
-use Rattle.call_changes.specs.Renew.{renewed, newMiOf}
-use Rattle.call_changes.specs.Report.{misreported, installed, reported}
-use Rattle.call_distribute.specs.Distribute.{nextAn, freshKey, withFresh, distributedOf}
+use Rattle.call_changes.specs.Renew.{renewed, newMiFacts, newMiOf}
+use Rattle.call_changes.specs.Report.{misreported, installed, reportFacts, reported}
+use Rattle.call_distribute.specs.Distribute.{nextAn, freshKey, withFresh, distributeFacts, distributedOf}
 use Rattle.participant.proofs.Settle.{on-done, settle-cases, numbered}
-use Rattle.law_calls.specs.Settled.{distribute-settles, new-mi-settles, report-settles, distributeFacts, newMiFacts, reportFacts}
+use Rattle.law_calls.specs.Settled.{distribute-settles, new-mi-settles, report-settles}
 
 -- A key with what the host reported of it set.
 abbrev pub setFlags : Bool → Bool → Slot → Slot
@@ -61,7 +61,7 @@ unfolding newMiOf renewed
 new-mi-leaves p time m =
     either
     (λ q. q ≡ setTable (q .table) (setMn (q .mn) (setKn (q .kn) (setMark (q .mark) (setWrapped (q .wrapped) (setSent (q .sent) (setDistributed (q .distributed) (setMi (q .mi) (setClock (q .clock) p)))))))))
-    p (renewed p time m) ((1, fact1 p time) ∷ newMiFacts p m) refl refl refl
+    p (renewed p time m) (newMiFacts p time m) refl refl refl
 
 pub distribute-leaves : (p : Participant) (time : ℕ) (w : List ℕ)
     → let q = distributedOf p time w .participant in
@@ -70,7 +70,7 @@ unfolding distributedOf withFresh withKey agedTo
 distribute-leaves p time w =
     either
     (λ q. q ≡ setKn (q .kn) (setMark (q .mark) (setDistributed (q .distributed) (setWrapped (q .wrapped) (setLatest (q .latest) (setOld (q .old) (setClock (q .clock) (setTable (q .table) p))))))))
-    p (withFresh (agedTo p time) (first24 w)) ((1, fact1 p time) ∷ distributeFacts p time w) refl refl refl
+    p (withFresh (agedTo p time) (first24 w)) (distributeFacts p time w) refl refl refl
 
 -- What an accepted distribution sets.
 pub record Handed (p : Participant) (time : ℕ) (w : List ℕ) (q : Participant) : Type 0 where
@@ -89,7 +89,7 @@ handed-fresh p time w = record { kn = refl; mark = refl; distributed = refl; wra
 pub distribute-hands : (p : Participant) (time : ℕ) (w : List ℕ) → distributedOf p time w .answer ≡ Done → Handed p time w (distributedOf p time w .participant)
 distribute-hands p time w d =
     let e = distribute-settles p time w in
-    let s = on-done p (withFresh (agedTo p time) (first24 w)) ((1, fact1 p time) ∷ distributeFacts p time w) refl (ap (λ (r : Called). r .answer) (sym e) ∙ d) in
+    let s = on-done p (withFresh (agedTo p time) (first24 w)) (distributeFacts p time w) refl (ap (λ (r : Called). r .answer) (sym e) ∙ d) in
     rw (e ∙ s .0) (handed-fresh p time w)
 
 -- "AN .. modulo 4"
@@ -124,7 +124,7 @@ pub new-mi-empties : (p : Participant) (time : ℕ) (m : Mi) → newMiOf p time 
 unfolding renewed
 new-mi-empties p time m d =
     let e = new-mi-settles p time m in
-    let s = on-done p (renewed p time m) ((1, fact1 p time) ∷ newMiFacts p m) refl (ap (λ (r : Called). r .answer) (sym e) ∙ d) in
+    let s = on-done p (renewed p time m) (newMiFacts p time m) refl (ap (λ (r : Called). r .answer) (sym e) ∙ d) in
     rw (e ∙ s .0) (record { mn = refl; kn = refl; mark = refl; sent = refl; distributed = refl; wrapped = refl; table = refl }, refl)
 
 -- an accepted report is of the latest key, whose flag it sets

@@ -5,16 +5,15 @@ use mathlib.Core.Bool.{Bool, true, false}
 use mathlib.Core.List.{List, _∷_}
 use native.Mathlib.Omega.{arith}
 use borrow.Author.Tests.{eqb-false}
-use Rattle.base_facts.specs.Facts.{firstOf}
+use Rattle.base_facts.specs.Facts.{lastNumber, firstOf}
 use Rattle.base_mi.specs.Mi.{miSame}
 use Rattle.participant.specs.declared.Participant.{Participant}
-use Rattle.participant.specs.Call.{settle, fact1, agedTo}
+use Rattle.participant.specs.Call.{agedTo}
 use Rattle.participant.specs.Record.{first24}
-use Rattle.call_distribute.specs.Distribute.{withFresh, distributedOf}
+use Rattle.call_distribute.specs.Distribute.{withFresh, distributeFacts, distributedOf}
 use Rattle.participant.specs.declared.call.Answer.the-variants.{Done}
 use Rattle.participant.specs.declared.call.Called.{Called}
 use Rattle.participant.proofs.Settle.{none-holds, on-done}
-use Rattle.law_calls.specs.Settled.{distributeFacts}
 use Rattle.call_judge.specs.Judge.{basicIn, frameFacts}
 use Rattle.call_receive.specs.Receive.{tableFacts, receiveFacts}
 use Rattle.call_send.specs.Send.{sendFacts}
@@ -30,13 +29,13 @@ pub mn-fits : (p : Participant) (time latestPn oldPn room : ℕ) → p .mn < 2 ^
 unfolding sendFacts
 mn-fits p time l o room h e =
     let none = none-holds (sendFacts p time l o room) refl e in
-    let ne = eqb-false (p .mn) 4294967295 (none .1 .0) in
+    let ne = eqb-false (p .mn) lastNumber (none .1 .0) in
     omega arith
 
 -- and so is a key number
 pub kn-fits : (p : Participant) (time : ℕ) (w : List ℕ) → p .kn < 2 ^ 32 → distributedOf p time w .answer ≡ Done → p .kn + 1 < 2 ^ 32
 unfolding distributedOf
 kn-fits p time w h e =
-    let none = on-done p (withFresh (agedTo p time) (first24 w)) ((1, fact1 p time) ∷ distributeFacts p time w) refl e .1 in
-    let ne = eqb-false (p .kn) 4294967295 (none .1 .1 .1 .0) in
+    let none = on-done p (withFresh (agedTo p time) (first24 w)) (distributeFacts p time w) refl e .1 in
+    let ne = eqb-false (p .kn) lastNumber (none .1 .1 .1 .0) in
     omega arith

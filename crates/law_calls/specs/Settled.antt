@@ -1,10 +1,9 @@
--- The facts of each call in their order, and the clock after it.
+-- Each call is a `settle` by its facts in their order, and the clock after it.
 use Prim.Native.Nat.{ℕ, _≤_}
 use mathlib.Core.Path.{_≡_, refl}
-use mathlib.Core.Bool.{Bool, not}
+use mathlib.Core.Bool.{Bool}
 use mathlib.Core.List.{List, [], _∷_}
-use lib.ListN.{length}
-use lib.Dec.{eqb}
+use lib.ListN.{length, drop}
 use Rattle.base_mi.specs.declared.Mi.{Mi}
 use Rattle.law_lists.specs.Laws.{by-cases}
 use Rattle.participant.specs.declared.Participant.{Participant}
@@ -13,32 +12,21 @@ use Rattle.participant.specs.Call.{settle, fact1, agedTo, ticked}
 use Rattle.participant.specs.Record.{first24, setLatest}
 use Rattle.call_creation.specs.Create.{badStart, fresh, emptyParticipant, createdOf}
 use Rattle.participant.specs.Keys.{withKey}
-use Rattle.call_questions.specs.Ask.{freshDue}
-use Rattle.call_changes.specs.Renew.{inUse, renewed, newMiOf}
-use Rattle.call_changes.specs.Report.{misreported, installed, reported}
-use Rattle.call_distribute.specs.Distribute.{withFresh, distributedOf}
+use Rattle.call_changes.specs.Renew.{renewed, newMiFacts, newMiOf}
+use Rattle.call_changes.specs.Report.{misreported, installed, reportFacts, reported}
+use Rattle.call_distribute.specs.Distribute.{withFresh, distributeFacts, distributedOf}
 use Rattle.participant.proofs.Settle.{timed-clock, timed-onward}
-
--- The facts of each call in their order, past fact 1 where the call has a time; by these each call is a `settle`.
-abbrev pub distributeFacts : Participant → ℕ → List ℕ → List (ℕ × Bool)
-distributeFacts p time w = (15, not (eqb (length w) 24)) ∷ (17, not (freshDue (agedTo p time))) ∷ (14, eqb (p .kn) 4294967295) ∷ []
-
-abbrev pub newMiFacts : Participant → Mi → List (ℕ × Bool)
-newMiFacts p m = (19, inUse p m) ∷ []
-
-abbrev pub reportFacts : Participant → Mi → ℕ → Bool → List (ℕ × Bool)
-reportFacts p m kn transmit = (18, misreported (p .latest) m kn transmit) ∷ []
 
 module _ (p : Participant) (time : ℕ) where
   pub tick-settles : ticked p time ≡ settle p ((1, fact1 p time) ∷ []) (agedTo p time)
   unfolding ticked
   tick-settles = refl
 
-  pub distribute-settles : (w : List ℕ) → distributedOf p time w ≡ settle p ((1, fact1 p time) ∷ distributeFacts p time w) (withFresh (agedTo p time) (first24 w))
+  pub distribute-settles : (w : List ℕ) → distributedOf p time w ≡ settle p (distributeFacts p time w) (withFresh (agedTo p time) (first24 w))
   unfolding distributedOf
   distribute-settles w = refl
 
-  pub new-mi-settles : (m : Mi) → newMiOf p time m ≡ settle p ((1, fact1 p time) ∷ newMiFacts p m) (renewed p time m)
+  pub new-mi-settles : (m : Mi) → newMiOf p time m ≡ settle p (newMiFacts p time m) (renewed p time m)
   unfolding newMiOf
   new-mi-settles m = refl
 
@@ -62,19 +50,19 @@ module _ (p : Participant) (time : ℕ) where
 
   pub distribute-clock : (w : List ℕ) → distributedOf p time w .answer ≡ Done → distributedOf p time w .participant .clock ≡ time
   unfolding distributedOf withFresh withKey agedTo
-  distribute-clock w e = timed-clock p (withFresh (agedTo p time) (first24 w)) time (distributeFacts p time w) refl refl e
+  distribute-clock w e = timed-clock p (withFresh (agedTo p time) (first24 w)) time (drop 1 (distributeFacts p time w)) refl refl e
 
   pub distribute-onward : (w : List ℕ) → p .clock ≤ distributedOf p time w .participant .clock
   unfolding distributedOf withFresh withKey agedTo
-  distribute-onward w = timed-onward p (withFresh (agedTo p time) (first24 w)) time (distributeFacts p time w) refl refl
+  distribute-onward w = timed-onward p (withFresh (agedTo p time) (first24 w)) time (drop 1 (distributeFacts p time w)) refl refl
 
   pub new-mi-clock : (m : Mi) → newMiOf p time m .answer ≡ Done → newMiOf p time m .participant .clock ≡ time
   unfolding newMiOf renewed
-  new-mi-clock m e = timed-clock p (renewed p time m) time (newMiFacts p m) refl refl e
+  new-mi-clock m e = timed-clock p (renewed p time m) time (drop 1 (newMiFacts p time m)) refl refl e
 
   pub new-mi-onward : (m : Mi) → p .clock ≤ newMiOf p time m .participant .clock
   unfolding newMiOf renewed
-  new-mi-onward m = timed-onward p (renewed p time m) time (newMiFacts p m) refl refl
+  new-mi-onward m = timed-onward p (renewed p time m) time (drop 1 (newMiFacts p time m)) refl refl
 
 -- a report carries no time
 pub report-clock : (p : Participant) (m : Mi) (kn : ℕ) (transmit : Bool) → reported p m kn transmit .participant .clock ≡ p .clock

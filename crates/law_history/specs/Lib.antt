@@ -9,4 +9,5 @@ pub mod Recent
 pub mod Proving
 pub mod Live
 pub mod Keys
+pub mod Asked
 pub mod Worked

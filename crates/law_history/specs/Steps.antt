@@ -9,14 +9,13 @@ use borrow.Author.Tests.{eqb-true}
 use Rattle.base_facts.specs.Facts.{firstOf}
 use Rattle.participant.specs.Call.{fact1, agedTo, ticked}
 use Rattle.participant.specs.Record.{first24, setLatest}
-use Rattle.call_changes.specs.Renew.{renewed, newMiOf}
-use Rattle.call_changes.specs.Report.{installed, reported}
-use Rattle.call_distribute.specs.Distribute.{withFresh, distributedOf}
+use Rattle.call_changes.specs.Renew.{renewed, newMiFacts, newMiOf}
+use Rattle.call_changes.specs.Report.{installed, reportFacts, reported}
+use Rattle.call_distribute.specs.Distribute.{withFresh, distributeFacts, distributedOf}
 use Rattle.participant.specs.declared.Participant.{Participant}
 use Rattle.participant.specs.declared.call.Called.{Called}
 use Rattle.participant.specs.declared.call.Answer.the-variants.{Done, Refused}
 use Rattle.participant.proofs.Settle.{NoneHolds, numbered, none-holds}
-use Rattle.law_calls.specs.Settled.{distributeFacts, newMiFacts, reportFacts}
 use Rattle.call_judge.specs.Judge.{basicIn, walkIn, placesIn, frameFacts}
 use Rattle.call_receive.specs.Receive.{tableFacts, receiveFacts, acceptedBy, acceptedOf, receivedOf}
 use Rattle.call_receive.specs.Receive as receive
@@ -35,9 +34,9 @@ use Rattle.law_history.specs.Calls.{Call, receives, sends, distributes, 
 abbrev pub facts : Participant → Call → List (ℕ × Bool)
 facts p (receives time verdict frame) = receiveFacts p time verdict frame
 facts p (sends time latestPn oldPn out) = sendFacts p time latestPn oldPn (length out)
-facts p (distributes time wrapped) = (1, fact1 p time) ∷ distributeFacts p time wrapped
+facts p (distributes time wrapped) = distributeFacts p time wrapped
 facts p (ticks time) = (1, fact1 p time) ∷ []
-facts p (renews time m) = (1, fact1 p time) ∷ newMiFacts p m
+facts p (renews time m) = newMiFacts p time m
 facts p (reports m kn transmit) = reportFacts p m kn transmit
 facts p asks = []
 facts p (saves out) = (13, ltb (length out) (length (imageOf p))) ∷ []

@@ -1,6 +1,7 @@
-// What the port page says of a participant, without the line's end. Beside it the line itself.
+// What the port page says of a participant as it stands, without the line's end. Beside it the line itself.
 use crate::line::Line;
 use crate::line::ROOM;
+use call_questions::standing;
 use participant::Participant;
 use table_election::Server;
 ghost use mathlib.Core.Path.{_≡_};
@@ -36,8 +37,9 @@ fn put_key(out: &mut [u8], at: usize, held: bool, kn: u32) -> usize
 pub fn status(p: Participant) -> Line
     ensures { λ r. ⌜ r ≡ lineOf (statusText p) ⌝ }
 {
-    let live = call_questions::live_count(p) as u64;
-    let potential = call_questions::potential_count(p) as u64;
+    let table = p.table;
+    let live = table_counts::live_count(table) as u64;
+    let potential = table_counts::potential_count(table) as u64;
     let latest = p.latest;
     let key = latest.key;
     let mut out = [0u8; ROOM];
@@ -45,7 +47,7 @@ pub fn status(p: Participant) -> Line
     let n = line::put_number(&mut out, n, b" live ", live);
     let n = line::put_number(&mut out, n, b" potential ", potential);
     let n = line::put_words(&mut out, n, b" server ");
-    let n = put_server(&mut out, n, call_questions::server(p));
+    let n = put_server(&mut out, n, standing::server(p));
     let n = line::put_words(&mut out, n, b" key ");
     let len = put_key(&mut out, n, latest.held, key.kn);
     Line { text: out, len }

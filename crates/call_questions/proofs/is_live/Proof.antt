@@ -1,7 +1,11 @@
 use mathlib.Core.Path.{_∙_}
+use Rattle.call_questions.specs.Ask.{askedLive}
 use borrow.Author.Needs.{needs}
 use Rattle.call_questions.proofs.is_live.Statement.{statement}
 use Rattle.call_questions.proofs.is_live.Tie as tie
+
+at-clock-requires : tie.Need-at-clock-requires
+at-clock-requires c κs = search needs
 
 look-requires : tie.Need-look-requires
 look-requires c κs = search needs
@@ -10,7 +14,8 @@ live-requires : tie.Need-live-requires
 live-requires c κs = search needs
 
 returns : tie.Need-returns
-returns c = c .live .ensures ∙ rw (c .before .look .ensures)
+unfolding askedLive
+returns c = c .live .ensures ∙ rw (c .before .look .ensures, c .before .before .before .at-clock .ensures)
 
 pub is-live-spec : {M : Type 1} → statement M
-is-live-spec = tie.close (tie.spec look-requires live-requires returns)
+is-live-spec = tie.close (tie.spec at-clock-requires look-requires live-requires returns)

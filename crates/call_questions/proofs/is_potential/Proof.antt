@@ -1,7 +1,11 @@
 use mathlib.Core.Path.{_∙_}
+use Rattle.call_questions.specs.Ask.{askedPotential}
 use borrow.Author.Needs.{needs}
 use Rattle.call_questions.proofs.is_potential.Statement.{statement}
 use Rattle.call_questions.proofs.is_potential.Tie as tie
+
+at-clock-requires : tie.Need-at-clock-requires
+at-clock-requires c κs = search needs
 
 look-requires : tie.Need-look-requires
 look-requires c κs = search needs
@@ -10,7 +14,8 @@ potential-requires : tie.Need-potential-requires
 potential-requires c κs = search needs
 
 returns : tie.Need-returns
-returns c = c .potential .ensures ∙ rw (c .before .look .ensures)
+unfolding askedPotential
+returns c = c .potential .ensures ∙ rw (c .before .look .ensures, c .before .before .before .at-clock .ensures)
 
 pub is-potential-spec : {M : Type 1} → statement M
-is-potential-spec = tie.close (tie.spec look-requires potential-requires returns)
+is-potential-spec = tie.close (tie.spec at-clock-requires look-requires potential-requires returns)

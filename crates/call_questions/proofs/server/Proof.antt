@@ -1,18 +1,18 @@
 use mathlib.Core.Path.{_∙_}
-use Rattle.call_questions.specs.Ask.{serverOf}
+use Rattle.call_questions.specs.Ask.{askedServer}
 use borrow.Author.Needs.{needs}
 use Rattle.call_questions.proofs.server.Statement.{statement}
 use Rattle.call_questions.proofs.server.Tie as tie
 
-own-rank-requires : tie.Need-own-rank-requires
-own-rank-requires c κs = search needs
+at-clock-requires : tie.Need-at-clock-requires
+at-clock-requires c κs = search needs
 
-elect-requires : tie.Need-elect-requires
-elect-requires c κs = search needs
+server-requires : tie.Need-server-requires
+server-requires c κs = search needs
 
 returns : tie.Need-returns
-unfolding serverOf
-returns c = c .elect .ensures ∙ rw (c .before .own-rank .ensures)
+unfolding askedServer
+returns c = c .server .ensures ∙ rw (c .before .at-clock .ensures)
 
 pub server-spec : {M : Type 1} → statement M
-server-spec = tie.close (tie.spec own-rank-requires elect-requires returns)
+server-spec = tie.close (tie.spec at-clock-requires server-requires returns)

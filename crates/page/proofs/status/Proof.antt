@@ -142,7 +142,7 @@ returns c =
     let live = potential .before .before .before .before in
     let sent = live .before .before .before .before in
     let asked = sent .before .before .before .before .before .before in
-    let p = asked .before .before .args .p in
+    let p = asked .before .before .before .args .p in
     let s =
     stored (replicate room 0) p _ _ _
     (asked .before .live-count .ensures)

@@ -3,8 +3,8 @@ use mathlib.Core.Path.{sym, _∙_}
 use borrow.Author.Tests.{eq-eqb, ne-eqb, not-true, not-false}
 use Rattle.call_questions.specs.Ask.{pauseOver}
 use borrow.Author.Needs.{needs}
-use Rattle.call_questions.proofs.pause_over.Statement.{statement}
-use Rattle.call_questions.proofs.pause_over.Tie as tie
+use Rattle.call_questions.proofs.standing.pause_over.Statement.{statement}
+use Rattle.call_questions.proofs.standing.pause_over.Tie as tie
 
 returns : tie.Need-returns
 unfolding pauseOver

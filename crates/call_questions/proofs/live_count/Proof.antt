@@ -1,0 +1,18 @@
+use mathlib.Core.Path.{_∙_}
+use Rattle.call_questions.specs.Ask.{askedLives}
+use borrow.Author.Needs.{needs}
+use Rattle.call_questions.proofs.live_count.Statement.{statement}
+use Rattle.call_questions.proofs.live_count.Tie as tie
+
+at-clock-requires : tie.Need-at-clock-requires
+at-clock-requires c κs = search needs
+
+live-count-requires : tie.Need-live-count-requires
+live-count-requires c κs = search needs
+
+returns : tie.Need-returns
+unfolding askedLives
+returns c = c .live-count .ensures ∙ rw (c .before .before .at-clock .ensures)
+
+pub live-count-spec : {M : Type 1} → statement M
+live-count-spec = tie.close (tie.spec at-clock-requires live-count-requires returns)

@@ -11,12 +11,13 @@ use Rattle.table_counts.specs.Counts.{liveCount, potentialCount}
 use Rattle.table_election.specs.Elect.{elected}
 use Rattle.call_questions.specs.Ask.{serverOf}
 use Rattle.call_creation.specs.Create.{fresh, emptyParticipant, createdOf}
-use Rattle.participant.specs.Keys.{noSlot}
 use Rattle.image_layout.specs.Layout.{headOf, entryOf, entriesFrom, bodies, laidOf, kindAt, recordsAt, offsetAt, laidFrom, laidOut}
 use Rattle.image_own.specs.Own.{namedOctets, timesOctets, keptOctets, ownOctets, ownAt, ownClean}
 use Rattle.image_peer.specs.Peer.{peersOctets, peersAt, peersClean}
 use Rattle.image_key.specs.Key.{slotAt, slotClean}
-use Rattle.image_rules.specs.Rules.{unusedZero, ownGood, peersGood, slotGood, keysGood, rules}
+use Rattle.table_expiry.specs.Kept.{peerRules}
+use Rattle.participant.specs.Keys.{noSlot, ofMember, isKey}
+use Rattle.image_rules.specs.Rules.{unusedZero, rules}
 use Rattle.image.specs.Image.{ownPart, peersPart, keysPart, imageOf}
 use Rattle.image_reading.specs.Read.{numbersGood, clean, toldBy, wellFormed, readOf}
 use Rattle.page.specs.declared.line.Line.{Line}
@@ -36,6 +37,6 @@ shownCases = row 1 (octets (ascii "sent 0 live 0 potential 0 server none key non
 pub shownCases-right : Right shownCases
 unfolding created createdOf fresh emptyParticipant noSlot emptyTable beAt beOf partOf miAt miOctets headOf entryOf entriesFrom bodies laidOf namedOctets
     timesOctets keptOctets ownOctets peersOctets ownPart peersPart keysPart imageOf kindAt recordsAt offsetAt laidFrom laidOut ownAt ownClean
-    peersAt peersClean slotAt slotClean unusedZero ownGood peersGood slotGood keysGood rules numbersGood clean toldBy wellFormed readOf
+    peersAt peersClean slotAt slotClean peerRules ofMember isKey unusedZero rules numbersGood clean toldBy wellFormed readOf
     liveCount potentialCount elected serverOf decimalOf serverText keyText statusText lineOf endedOf shownOf
 shownCases-right = each shownCases (refl, tt)

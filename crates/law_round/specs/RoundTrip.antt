@@ -1,12 +1,12 @@
 -- What is written is read again. Proved in RoundTripArgument.
-use Prim.Native.Nat.{ℕ, _+_, _-_}
+use Prim.Native.Nat.{ℕ, _+_}
 use mathlib.Core.Path.{_≡_}
 use mathlib.Core.Bool.{true, false}
 use mathlib.Core.List.{List, _++_}
 use lib.ListN.{length}
 use Rattle.base_octets.specs.Run.{partOf}
 use Rattle.base_mi.specs.Entry.{entriesOf}
-use Rattle.frame.specs.Basic.{basicOf}
+use Rattle.frame.specs.Basic.{icvPlace, basicOf}
 use Rattle.frame.specs.Ours.{fact6, fact7}
 use Rattle.frame.specs.declared.BasicRead.the-variants.{Read}
 use Rattle.frame_sets.specs.Kinds.{sakAt, sakUseAt}
@@ -24,7 +24,7 @@ pub record ReadBack (m : Mkpdu) (octets : List ℕ) : Type 0 where
   pub ckn : fact6 octets (basicWritten (m .sender) (length (bodyOctets m))) (cknOf (m .sender)) ≡ false
   pub agility : fact7 (basicWritten (m .sender) (length (bodyOctets m))) ≡ false
   -- the walk over the further sets comes to its end, and tells where each stands
-  pub walked : walkOf octets (livePlace m) (length (bodyOctets m) - 12) ≡ End (placesWritten m)
+  pub walked : walkOf octets (livePlace m) (icvPlace (length (bodyOctets m))) ≡ End (placesWritten m)
   -- the entries of both lists, in order
   pub live : listAt octets (placesWritten m .live .place) (placesWritten m .live .len) ≡ entriesOf (m .live)
   pub potential : listAt octets (placesWritten m .potential .place) (placesWritten m .potential .len) ≡ entriesOf (m .potential)

@@ -1,6 +1,8 @@
-// Each op of a call script: its payload's shape, its call, its line.
+// Each op of a call script: its call, its line.
 use crate::listing;
 use crate::print;
+use crate::shape;
+use crate::shape::Place;
 use crate::state;
 use crate::state::Played;
 use crate::state::State;
@@ -16,34 +18,6 @@ use participant::Participant;
 use participant::call::Answer;
 use participant::call::Called;
 ghost use Prim.Native.Nat.{_≤_};
-
-// Whether a payload has the shape of its op's.
-fn shaped(op: u8, d: &[u8]) -> bool {
-    let n = d.len();
-    match op {
-        1 => 31 <= n,
-        2 => 9 <= n,
-        3 => n == 18,
-        4 => 8 <= n,
-        5 => n == 8,
-        6 => n == 20,
-        7 => {
-            let what = base_octets::octet(d, 0);
-            if n != 17 {
-                return false;
-            }
-            if what == 0 {
-                return false;
-            }
-            what <= 2
-        }
-        8 => n == 0,
-        9 => n == 2,
-        10 => true,
-        11 => true,
-        _ => false,
-    }
-}
 
 // The payload from a place on.
 fn rest(d: &[u8], at: usize) -> &[u8] {
@@ -217,9 +191,9 @@ fn act(p: Participant, op: u8, d: &[u8], out: &mut [u8]) -> Played {
     }
 }
 
-// One record.
-pub(crate) fn play(s: State, op: u8, d: &[u8], out: &mut [u8]) -> Played {
-    if !shaped(op, d) {
+// One record, which stands at a place of the script.
+pub(crate) fn play(s: State, at: Place, op: u8, d: &[u8], out: &mut [u8]) -> Played {
+    if !shape::good(at, op, d) {
         return state::malformed(s, out);
     }
     if op == 1 {

@@ -45,14 +45,6 @@ pub(crate) fn same(s: State, len: usize) -> Played {
     }
 }
 
-pub(crate) fn over(s: State) -> Played {
-    Played {
-        state: s,
-        len: 0,
-        on: false,
-    }
-}
-
 pub(crate) fn malformed(s: State, out: &mut [u8]) -> Played {
     let len = print::words(out, 0, b"malformed\n");
     Played {

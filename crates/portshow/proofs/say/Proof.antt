@@ -8,11 +8,11 @@ use Rattle.portshow.proofs.say.Tie as tie
 array-share-prefix-text : tie.Need-array-share-prefix-text
 array-share-prefix-text c = let e : length (c .before .before .args .l .text) ≡ 96 = search needs in omega arith
 
-slice-aggregate-write-all : tie.Need-slice-aggregate-write-all
-slice-aggregate-write-all c = let e : length (c .before .before .before .args .l .text) ≡ 96 = search needs in simp length-take (omega arith)
+slice-aggregate-write : tie.Need-slice-aggregate-write
+slice-aggregate-write c = let e : length (c .before .before .before .args .l .text) ≡ 96 = search needs in simp length-take (omega arith)
 
-write-all-requires : tie.Need-write-all-requires
-write-all-requires c κs = search needs
+write-requires : tie.Need-write-requires
+write-requires c κs = search needs
 
 returns : tie.Need-returns
 returns c = search needs
@@ -25,7 +25,7 @@ say-spec =
     tie.close
     (tie.spec
     array-share-prefix-text
-    slice-aggregate-write-all
-    write-all-requires
+    slice-aggregate-write
+    write-requires
     returns
     returns-2)

@@ -1,0 +1,1 @@
+../../portshow/src/input.rt

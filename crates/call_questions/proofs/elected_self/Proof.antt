@@ -1,5 +1,5 @@
-use mathlib.Core.Path.{_∙_}
-use Rattle.call_questions.specs.Ask.{askedElected}
+use mathlib.Core.Path.{ap, _∙_}
+use Rattle.call_questions.specs.Ask.{electedSelf, askedElected}
 use borrow.Author.Needs.{needs}
 use Rattle.call_questions.proofs.elected_self.Statement.{statement}
 use Rattle.call_questions.proofs.elected_self.Tie as tie
@@ -12,7 +12,7 @@ elected-self-requires c κs = search needs
 
 returns : tie.Need-returns
 unfolding askedElected
-returns c = c .elected-self .ensures ∙ rw (c .before .at-clock .ensures)
+returns c = c .elected-self .ensures ∙ ap electedSelf (c .before .at-clock .ensures)
 
 pub elected-self-spec : {M : Type 1} → statement M
 elected-self-spec = tie.close (tie.spec at-clock-requires elected-self-requires returns)

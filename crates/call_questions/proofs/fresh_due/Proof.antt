@@ -1,5 +1,5 @@
-use mathlib.Core.Path.{_∙_}
-use Rattle.call_questions.specs.Ask.{askedFresh}
+use mathlib.Core.Path.{ap, _∙_}
+use Rattle.call_questions.specs.Ask.{freshDue, askedFresh}
 use borrow.Author.Needs.{needs}
 use Rattle.call_questions.proofs.fresh_due.Statement.{statement}
 use Rattle.call_questions.proofs.fresh_due.Tie as tie
@@ -12,7 +12,7 @@ fresh-due-requires c κs = search needs
 
 returns : tie.Need-returns
 unfolding askedFresh
-returns c = c .fresh-due .ensures ∙ rw (c .before .at-clock .ensures)
+returns c = c .fresh-due .ensures ∙ ap freshDue (c .before .at-clock .ensures)
 
 pub fresh-due-spec : {M : Type 1} → statement M
 fresh-due-spec = tie.close (tie.spec at-clock-requires fresh-due-requires returns)

@@ -1,4 +1,6 @@
-use mathlib.Core.Path.{_∙_}
+use mathlib.Core.Path.{ap, _∙_}
+use Rattle.participant.specs.declared.Participant.{Participant}
+use Rattle.table_lookup.specs.Look.{heldIn, liveFor}
 use Rattle.call_questions.specs.Ask.{askedLive}
 use borrow.Author.Needs.{needs}
 use Rattle.call_questions.proofs.is_live.Statement.{statement}
@@ -15,7 +17,9 @@ live-requires c κs = search needs
 
 returns : tie.Need-returns
 unfolding askedLive
-returns c = c .live .ensures ∙ rw (c .before .look .ensures, c .before .before .before .at-clock .ensures)
+returns c =
+    let a = c .before .before .before .before .args in
+    c .live .ensures ∙ ap liveFor (c .before .look .ensures ∙ ap (λ (q : Participant). heldIn (a .m) (q .table)) (c .before .before .before .at-clock .ensures))
 
 pub is-live-spec : {M : Type 1} → statement M
 is-live-spec = tie.close (tie.spec at-clock-requires look-requires live-requires returns)

@@ -1,4 +1,6 @@
-use mathlib.Core.Path.{_∙_}
+use mathlib.Core.Path.{ap, _∙_}
+use Rattle.participant.specs.declared.Participant.{Participant}
+use Rattle.table_counts.specs.Counts.{potentialCount}
 use Rattle.call_questions.specs.Ask.{askedPotentials}
 use borrow.Author.Needs.{needs}
 use Rattle.call_questions.proofs.potential_count.Statement.{statement}
@@ -12,7 +14,7 @@ potential-count-requires c κs = search needs
 
 returns : tie.Need-returns
 unfolding askedPotentials
-returns c = c .potential-count .ensures ∙ rw (c .before .before .at-clock .ensures)
+returns c = c .potential-count .ensures ∙ ap (λ (q : Participant). potentialCount (q .table)) (c .before .before .at-clock .ensures)
 
 pub potential-count-spec : {M : Type 1} → statement M
 potential-count-spec = tie.close (tie.spec at-clock-requires potential-count-requires returns)

@@ -1,5 +1,5 @@
-use mathlib.Core.Path.{_∙_}
-use Rattle.call_questions.specs.Ask.{askedServer}
+use mathlib.Core.Path.{ap, _∙_}
+use Rattle.call_questions.specs.Ask.{serverOf, askedServer}
 use borrow.Author.Needs.{needs}
 use Rattle.call_questions.proofs.server.Statement.{statement}
 use Rattle.call_questions.proofs.server.Tie as tie
@@ -12,7 +12,7 @@ server-requires c κs = search needs
 
 returns : tie.Need-returns
 unfolding askedServer
-returns c = c .server .ensures ∙ rw (c .before .at-clock .ensures)
+returns c = c .server .ensures ∙ ap serverOf (c .before .at-clock .ensures)
 
 pub server-spec : {M : Type 1} → statement M
 server-spec = tie.close (tie.spec at-clock-requires server-requires returns)

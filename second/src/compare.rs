@@ -59,7 +59,7 @@ fn faults(program: &str, (seed, kind, script): (u64, Kind, &[u8]), ours: &[Strin
 
 /// Runs another program on a script.
 fn run(program: &str, script: &[u8]) -> io::Result<Output> {
-    let mut child = Command::new(program).stdin(Stdio::piped()).stdout(Stdio::piped()).spawn()?;
+    let mut child = Command::new(program).stdin(Stdio::piped()).stdout(Stdio::piped()).stderr(Stdio::null()).spawn()?;
     let mut input = child.stdin.take().expect("standard input is piped");
     std::thread::scope(|scope| {
         // A program that ends early closes its input; its output and exit status tell then.

@@ -1,4 +1,4 @@
--- A row of the table of bench cases: the case's number, what document 01 says comes out, and what the definitions give.
+-- A row of the table of bench cases: the case's number, what SCOPE says comes out, and what the definitions give.
 use Prim.Native.Nat.{ℕ}
 use mathlib.Core.Bool.{Bool}
 use mathlib.Core.Path.{_≡_, refl, sym, _∙_, ap₂}

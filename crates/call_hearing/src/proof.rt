@@ -8,7 +8,7 @@ ghost use mathlib.Core.Path.{_≡_};
 ghost use Rattle.call_hearing.specs.Proof.{isRecent, namedIn, provesIn};
 
 // How many of the last numbers sent are recent.
-pub const LAST: u32 = 4;
+const LAST: u32 = 4;
 
 // `last` is the last number sent.
 pub fn recent(mn: u32, last: u32) -> bool

@@ -9,7 +9,7 @@ ghost use Rattle.call_questions.specs.Ask.{atClock, askedServer, askedEl
 pub mod standing;
 
 // The hello time in milliseconds.
-pub const HELLO: u64 = 2000;
+const HELLO: u64 = 2000;
 
 fn at_clock(p: Participant) -> Participant
     ensures { λ r. ⌜ r ≡ atClock p ⌝ }

@@ -7,7 +7,7 @@ ghost use mathlib.Core.Path.{_≡_};
 ghost use lib.ListN.{length};
 ghost use Rattle.call_send.specs.Send.{refusedOf, sentOf, leftBy};
 
-pub mod message;
+mod message;
 
 // The frame's length.
 pub enum Answer {

@@ -1,4 +1,4 @@
--- One further set: the rules of the table, "Body lengths allowed" and what follows it, and what a good set is.
+-- One further set: the rules of the table of sets, and what a good set is.
 use Prim.Native.Nat.{ℕ, _+_, _-_, _*_, _%_}
 use mathlib.Core.List.{List}
 use mathlib.Core.Bool.{Bool, true, false, cond, not, _||_, _&&_}

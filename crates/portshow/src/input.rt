@@ -53,7 +53,7 @@ pub(crate) fn named() -> i32 {
     if os::arg_count() < 2 {
         return STDIN_FILENO;
     }
-    let mut word = io::buffer();
+    let mut word = [0u8; 1024];
     let n = os::arg(1, &mut word);
     if os::errno() != 0 {
         failed(b"", b"the file's name");

@@ -32,7 +32,7 @@ abbrev told : ℕ → Option ℕ
 told n = cond (eqb n 0) none (some n)
 
 -- the fact that a list's number names isn't 0
-counted : (earlier later : List (ℕ × Bool)) (n : ℕ) → numbered (earlier ++ ((n, true) ∷ later)) ≡ true → eqb n 0 ≡ false
+pub counted : (earlier later : List (ℕ × Bool)) (n : ℕ) → numbered (earlier ++ ((n, true) ∷ later)) ≡ true → eqb n 0 ≡ false
 counted [] later n k = not-true (eqb n 0) (first-of (not (eqb n 0)) (numbered later) k)
 counted (f ∷ fs) later n k = counted fs later n (second-of (not (eqb (f .0) 0)) (numbered (fs ++ ((n, true) ∷ later))) k)
 

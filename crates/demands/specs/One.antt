@@ -12,7 +12,7 @@ use Rattle.frame.specs.Basic.{bodyLen, basicLen, fact2, fact3, fact4, fact5, ba
 use Rattle.frame.specs.declared.BasicRead.the-variants as onBasic
 use Rattle.participant.specs.declared.Participant.{Participant}
 use Rattle.participant.specs.declared.call.Answer.the-variants as onCall
-use Rattle.participant.proofs.Settle.{NoneHolds, First}
+use Rattle.participant.specs.First.{NoneHolds, First}
 use Rattle.call_creation.specs.Create.{badStart}
 use Rattle.image_reading.specs.Read.{wellFormed, readOf}
 use Rattle.law_history.specs.Calls.{Creation, created, Call, receives, sends, distributes, ticks, renews, reports, asks, saves, answerOf, answered}

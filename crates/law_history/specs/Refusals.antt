@@ -7,7 +7,7 @@ use mathlib.Core.List.{List, [], _∷_, map}
 use mathlib.Core.Option.{Option, none, some}
 use mathlib.Core.Logic.{_↔_}
 use Rattle.participant.specs.declared.Participant.{Participant}
-use Rattle.participant.proofs.Settle.{NoneHolds, First}
+use Rattle.participant.specs.First.{NoneHolds, First}
 use Rattle.participant.specs.declared.call.Answer.the-variants as onCall
 use Rattle.call_receive.specs.declared.Answer.the-variants as onReceive
 use Rattle.call_send.specs.declared.Answer.the-variants as onSend

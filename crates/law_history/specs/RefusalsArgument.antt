@@ -14,7 +14,8 @@ use Rattle.law_lists.specs.Laws.{by-cases, never, clash, first-of, second-of}
 use Rattle.participant.specs.Call.{ticked}
 use Rattle.participant.specs.declared.Participant.{Participant}
 use Rattle.participant.specs.declared.call.Answer.the-variants as onCall
-use Rattle.participant.proofs.Settle.{NoneHolds, numbered, First, first-holds, none-holds, first-number, none-number}
+use Rattle.participant.specs.First.{NoneHolds, numbered, First}
+use Rattle.participant.proofs.Settle.{first-holds, none-holds, first-number, none-number}
 use Rattle.call_changes.specs.Renew.{newMiOf}
 use Rattle.call_changes.specs.Report.{reported}
 use Rattle.call_distribute.specs.Distribute.{distributedOf}

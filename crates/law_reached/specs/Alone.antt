@@ -9,7 +9,7 @@ use lib.ListN.{length}
 use Rattle.frame.specs.Basic.{basicFacts, basicOf}
 use Rattle.frame.specs.declared.BasicRead.the-variants as onBasic
 use Rattle.participant.specs.declared.call.Answer.the-variants as onCall
-use Rattle.participant.proofs.Settle.{First}
+use Rattle.participant.specs.First.{First}
 use Rattle.call_creation.specs.Create.{badStart}
 use Rattle.image_reading.specs.Read.{wellFormed, readOf}
 use Rattle.law_history.specs.Calls.{Creation, created}

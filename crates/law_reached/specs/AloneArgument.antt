@@ -15,7 +15,8 @@ use Rattle.participant.specs.Call.{doneOf, refusedOf, settle}
 use Rattle.participant.specs.declared.Participant.{Participant}
 use Rattle.participant.specs.declared.call.Called.{Called}
 use Rattle.participant.specs.declared.call.Answer.the-variants as onCall
-use Rattle.participant.proofs.Settle.{numbered, First, first-holds, first-number}
+use Rattle.participant.specs.First.{numbered, First}
+use Rattle.participant.proofs.Settle.{first-holds, first-number}
 use Rattle.call_creation.specs.Create.{createdOf}
 use Rattle.image_reading.specs.Read.{readOf}
 use Rattle.law_history.specs.Calls.{created}

@@ -15,10 +15,6 @@ abbrev pub firstOf : List (ℕ × Bool) → ℕ
 firstOf [] = 0
 firstOf (f ∷ fs) = cond (f .1) (f .0) (firstOf fs)
 
--- "MN .. already 4,294,967,295": the last of four octets
-abbrev pub lastNumber : ℕ
-lastNumber = 4294967295
-
 -- "every set is padded to a multiple of 4"
 abbrev pub paddedOf : ℕ → ℕ
 paddedOf n = (n + 3) / 4 * 4

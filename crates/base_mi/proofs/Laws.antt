@@ -12,6 +12,7 @@ use borrow.Author.Tests.{ltb-true, ltb-false}
 use lib.Dec.{ltb, lit≤}
 use Rattle.base_octets.specs.Number.{beAt, beOf}
 use Rattle.base_mi.specs.Mi.{miAt, miOctets}
+use Rattle.base_mi.specs.Fitting.{Fitting}
 use Rattle.base_mi.specs.Entry.{cutAt, entryAt, entryOctets}
 use Rattle.base_mi.specs.declared.Mi.{Mi}
 use Rattle.base_mi.specs.declared.entry.Entry.{Entry}
@@ -84,11 +85,6 @@ unfolding entryOctets
 length-entry e = length-append (miOctets (e .mi)) (beOf 4 (e .mn)) ∙ omega (arith, length-mi (e .mi), length-beOf 4 (e .mn))
 
 -- ---- what stands in a run of octets is read there again
-
--- the parts of a member identifier fit
-pub record Fitting (m : Mi) : Type 0 where
-  pub hi : m .hi < 2 ^ 64
-  pub lo : m .lo < 2 ^ 32
 
 pub mi-stands : (f : List ℕ) (m : Mi) (at : ℕ) → Fitting m → Stands f (miOctets m) at → miAt f at ≡ m
 unfolding miAt miOctets

@@ -1,2 +1,3 @@
 pub mod Mi
+pub mod Fitting
 pub mod Entry

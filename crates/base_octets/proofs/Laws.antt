@@ -13,10 +13,7 @@ use lib.Dec.{lit<}
 use mir.Syntax.{w8}
 use mir.Val.{Fits}
 use Rattle.base_octets.specs.Number.{beAt, beOf}
-
--- what the rule of a slice of u8 gives, as `c .shared-slice-known .given`
-abbrev pub Octets : List ℕ → Type 0
-Octets s = (i : ℕ) → Fits w8 (getD s i 0)
+use Rattle.base_octets.specs.Octets.{Octets}
 
 pub beAt-zero : (s : List ℕ) (at : ℕ) → beAt s at 0 ≡ 0
 unfolding beAt

@@ -54,7 +54,7 @@ askedElected p = electedSelf (atClock p)
 unfoldable pub askedFresh : Participant → Bool
 askedFresh p = freshDue (atClock p)
 
--- "is this MI Live, is it Potential"
+-- whether an MI is Live, or Potential
 unfoldable pub askedLive : Participant → Mi → Bool
 askedLive p m = liveFor (heldIn m (atClock p .table))
 

@@ -15,7 +15,8 @@ use Rattle.frame_writer.specs.declared.Wrote.the-variants as wrote
 use Rattle.participant.specs.Call.{agedTo}
 use Rattle.participant.specs.Record.{setClock, setMn, setSent, setTable}
 use Rattle.participant.specs.declared.Participant.{Participant}
-use Rattle.participant.proofs.Settle.{First, NoneHolds, first-holds, none-holds}
+use Rattle.participant.specs.First.{First, NoneHolds}
+use Rattle.participant.proofs.Settle.{first-holds, none-holds}
 use Rattle.call_send.specs.declared.Answer.the-variants.{Octets, Refused}
 use Rattle.call_send.specs.declared.Sent.{Sent}
 use Rattle.call_send.specs.Send.{frameAt, sendFacts, sentAt, refusedOf, sentOf, leftBy}

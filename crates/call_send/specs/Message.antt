@@ -51,7 +51,7 @@ senderOf p =
 unfoldable pub sakOf : Participant → Sak
 sakOf p = record { an = p .latest .key .an; confidentiality = p .latest .key .confidentiality; kn = p .latest .key .kn; wrapped = p .wrapped }
 
--- "Live, Potential (.. in table order); SAK Use if a latest key exists; Distributed SAK of 28 if .."
+-- "Live, Potential (.. in table order); SAK Use if a latest key exists, ..; Distributed SAK of 28 if .."
 unfoldable pub messageOf : Participant → ℕ → ℕ → Mkpdu
 messageOf p latestPn oldPn =
     record {

@@ -1,18 +1,25 @@
 -- 1. "Any octets, at any time value, in any order of calls, get an answer. Every call checks its own arguments. A refusal has one number,
--- in its order, and changes neither the participant nor one octet of a lent buffer."
+-- in the order of SCOPE, and changes neither the participant nor one octet of a lent buffer."
 use Prim.Native.Nat.{ℕ}
 use mathlib.Core.Path.{_≡_}
-use mathlib.Core.Bool.{Bool}
+use mathlib.Core.Bool.{Bool, not}
 use mathlib.Core.List.{List, [], _∷_, map}
 use mathlib.Core.Option.{none, some}
 use mathlib.Core.Logic.{_↔_}
+use lib.ListN.{length}
 use Rattle.base_mi.specs.declared.Mi.{Mi}
+use Rattle.frame.specs.Basic.{bodyLen, basicLen, fact2, fact3, fact4, fact5, basicOf}
+use Rattle.frame.specs.declared.BasicRead.the-variants as onBasic
 use Rattle.participant.specs.declared.Participant.{Participant}
-use Rattle.participant.proofs.Settle.{NoneHolds, First}
-use Rattle.law_history.specs.Calls.{Call, receives, sends, distributes, ticks, renews, reports, asks, saves, answerOf, answered}
+use Rattle.participant.specs.declared.call.Answer.the-variants as onCall
+use Rattle.participant.specs.First.{NoneHolds, First}
+use Rattle.call_creation.specs.Create.{badStart}
+use Rattle.image_reading.specs.Read.{wellFormed, readOf}
+use Rattle.law_history.specs.Calls.{Creation, created, Call, receives, sends, distributes, ticks, renews, reports, asks, saves, answerOf, answered}
 use Rattle.law_history.specs.Steps.{facts}
 use Rattle.law_history.specs.Refusals.{refusalIn, lent, leftIn}
 use Rattle.law_history.specs.RefusalsArgument as refusals
+use Rattle.law_reached.specs.AloneArgument as alone
 
 -- the numbers of a call's facts, in their order
 abbrev numbers : Participant → Call → List ℕ
@@ -35,6 +42,11 @@ pub record One : Type 0 where
   -- "and changes neither the participant nor one octet of a lent buffer"
   pub same : (p : Participant) (c : Call) (n : ℕ) → refusalIn (answerOf p c) ≡ some n → answered p c ≡ p
   pub left : (p : Participant) (c : Call) (n : ℕ) → refusalIn (answerOf p c) ≡ some n → leftIn (answerOf p c) ≡ lent c
+  -- the calls that need no participant: creating, reading an image, the sets of a frame
+  pub create : (k : Creation) (n : ℕ) → (created k .answer ≡ onCall.Refused n) ↔ First ((15, badStart (length (k .ckn)) (k .capability)) ∷ []) n
+  pub read : (s : List ℕ) (n : ℕ) → (readOf s .answer ≡ onCall.Refused n) ↔ First ((16, not (wellFormed s)) ∷ []) n
+  pub sets : (s : List ℕ) (n : ℕ) → (basicOf s ≡ onBasic.Refused n)
+      ↔ First ((2, fact2 s) ∷ (3, fact3 s) ∷ (4, fact4 (bodyLen s)) ∷ (5, fact5 (basicLen s) (bodyLen s)) ∷ []) n
 
 pub one : One
 one =
@@ -51,4 +63,7 @@ one =
       accepted = refusals.accepted-exactly;
       same = refusals.refused-same;
       left = refusals.refused-left;
+      create = alone.create-refused;
+      read = alone.read-refused;
+      sets = alone.sets-refused;
     }

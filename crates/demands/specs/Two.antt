@@ -7,7 +7,7 @@ use mathlib.Core.List.{List, [], _++_, List·Memᴰ}
 use mathlib.Core.Logic.{_⊎_}
 use lib.ListN.{take}
 use lib.Dec.{eqb}
-use Rattle.base_octets.proofs.Laws.{Octets}
+use Rattle.base_octets.specs.Octets.{Octets}
 use Rattle.base_mi.specs.declared.Mi.{Mi}
 use Rattle.frame_places.specs.declared.Spot.{Spot}
 use Rattle.frame_writer.specs.Frame.{frameOf}
@@ -22,7 +22,7 @@ use Rattle.table_election.specs.Elect.{ourselves, peerOf, eligible, candidates,
 use Rattle.table_election.specs.declared.Rank.{Rank}
 use Rattle.table_election.specs.declared.Server.the-variants.{Nobody, Ourselves, Elected}
 use Rattle.table_election.proofs.Least as election
-use Rattle.table_election.proofs.Least.{Least}
+use Rattle.table_election.specs.Least.{Least}
 use Rattle.participant.specs.Call.{doneOf}
 use Rattle.participant.specs.declared.Participant.{Participant}
 use Rattle.participant.specs.declared.call.Answer.the-variants.{Done}

@@ -10,7 +10,7 @@ use lib.Dec.{eqb, ltb, leb}
 use borrow.Author.Tests.{ne-eqb, eqb-true, ltb-false, leb-true, le-leb, lt-leb, not-false}
 use Rattle.base_facts.specs.Facts.{paddedOf}
 use Rattle.base_octets.specs.Number.{beAt}
-use Rattle.base_octets.proofs.Laws.{Octets}
+use Rattle.base_octets.specs.Octets.{Octets}
 use Rattle.frame_sets.specs.Kinds.{kindAt, typeOf}
 use Rattle.frame_sets.specs.Set.{lenAt, isList, allowed, extentOf, fits, unnumbered, badSet, setFields, setAnswer, setOf, allowedOthers, badShape, badHead, headOf, badBody, listLen, badList}
 use Rattle.frame_places.specs.Once.{holds}

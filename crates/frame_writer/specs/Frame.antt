@@ -81,7 +81,7 @@ sakSet k = setHeader 4 (sakOctet (record { an = k .an; confidentiality = k .conf
 abbrev pub sakPart : Bool → Sak → List ℕ
 sakPart distributed k = cond distributed (sakSet k) []
 
--- "Sets in order: Basic; Live, Potential; SAK Use; Distributed SAK of 28; 16 zero octets for the ICV."
+-- "Sets in order: Basic; Live, Potential (..); SAK Use ..; Distributed SAK of 28 ..; 16 zero octets for the ICV."
 unfoldable pub bodyOctets : Mkpdu → List ℕ
 bodyOctets m =
     basicOctets (m .sender)

@@ -10,7 +10,8 @@ use lib.Seq.{drop-drop, take-add, length-take-le}
 use lib.Dec.{eqb}
 use borrow.Author.Tests.{eqb-true}
 use Rattle.base_octets.specs.Number.{beAt, beOf}
-use Rattle.base_octets.proofs.Laws.{Octets, beAt-lt, be-back}
+use Rattle.base_octets.specs.Octets.{Octets}
+use Rattle.base_octets.proofs.Laws.{beAt-lt, be-back}
 use Rattle.image_layout.specs.Layout.{headOf, entryOf, entriesFrom, bodies, place, laidOf, kindAt, recordsAt, offsetAt, laidFrom, laidOut, partsFrom, partsIn}
 use Rattle.image_layout.proofs.Round.{Matching, ToldFrom}
 

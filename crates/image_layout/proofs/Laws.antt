@@ -11,7 +11,8 @@ use lib.Dec.{eqb}
 use lib.Seq.{sets, drop-cons}
 use borrow.Author.Tests.{eq-eqb, ne-eqb}
 use Rattle.base_octets.specs.Number.{beAt, beOf}
-use Rattle.base_octets.proofs.Laws.{Octets, beAt-lt, length-beOf, sets-then}
+use Rattle.base_octets.specs.Octets.{Octets}
+use Rattle.base_octets.proofs.Laws.{beAt-lt, length-beOf, sets-then}
 use Rattle.image_layout.specs.Layout.{Part, headOf, entryOf, entriesFrom, bodies, place, laidOf, kindAt, recordsAt, offsetAt, laidFrom, laidOut}
 
 -- ---- lengths

@@ -17,7 +17,7 @@ use Rattle.table.specs.Table.{entries}
 use Rattle.table_expiry.specs.Expiry.{freshPeer}
 use Rattle.table_expiry.specs.Kept.{only, unprovenZero, timely, freshProof, ordered, distinct, absent, numbered, peerRules}
 use Rattle.participant.specs.declared.Participant.{Participant}
-use Rattle.image_rules.specs.Rules.{inRanges, twoBits, everyKey, underFour, useGood, zeros, unusedZero, ownTimely, keysDistinct, keyNumbered, notAbove, rules}
+use Rattle.image_rules.specs.Rules.{inRanges, twoBits, everyKey, underFour, useGood, zeros, unusedZero, ownTimely, keysDistinct, keyNumbered, withinOurs, rules}
 use Rattle.image_rules.specs.Records.{ownGood, proofGood, timesGood, peerGood, peersGood, keyGood, slotGood, keysGood}
 
 -- what a loop over octets has left
@@ -88,14 +88,14 @@ slots : (h h′ x y u n a x′ y′ u′ n′ a′ d : Bool)
 slots h h′ x y u n a x′ y′ u′ n′ a′ d = simp (only-and, and-comm, and-assoc, and-swap)
 
 pub keys-by-rule : (p : Participant) → keysGood p
-    ≡ (everyKey underFour p && (everyKey useGood p && (keysDistinct p && (everyKey keyNumbered p && everyKey (notAbove (p .mi) (p .kn)) p))))
+    ≡ (everyKey underFour p && (everyKey useGood p && (keysDistinct p && (everyKey keyNumbered p && everyKey (withinOurs (p .mi) (p .kn)) p))))
 unfolding keysGood slotGood keyGood
 keys-by-rule p =
     let k = p .latest .key in
     let o = p .old .key in
     slots (p .latest .held) (p .old .held)
-    (ltb (k .an) 4) (ltb (k .confidentiality) 4) (useGood k) (keyNumbered k) (notAbove (p .mi) (p .kn) k)
-    (ltb (o .an) 4) (ltb (o .confidentiality) 4) (useGood o) (keyNumbered o) (notAbove (p .mi) (p .kn) o)
+    (ltb (k .an) 4) (ltb (k .confidentiality) 4) (useGood k) (keyNumbered k) (withinOurs (p .mi) (p .kn) k)
+    (ltb (o .an) 4) (ltb (o .confidentiality) 4) (useGood o) (keyNumbered o) (withinOurs (p .mi) (p .kn) o)
     (keysDistinct p)
 
 -- ---- all of it
@@ -111,4 +111,4 @@ by-record p =
     sym
     (ap₂ (λ (x y : Bool). ownGood p && (x && y)) (peers-by-rule (p .mi) (p .clock) l) (keys-by-rule p)
     ∙ whole (inRanges p) (unusedZero p) (ownTimely p) (every twoBits l) (peerRules (p .mi) (p .clock) l) (everyKey underFour p) (everyKey useGood p)
-    (keysDistinct p) (everyKey keyNumbered p) (everyKey (notAbove (p .mi) (p .kn)) p))
+    (keysDistinct p) (everyKey keyNumbered p) (everyKey (withinOurs (p .mi) (p .kn)) p))

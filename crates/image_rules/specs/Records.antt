@@ -11,7 +11,7 @@ use Rattle.table_expiry.specs.Kept.{only, freshProof, absent, numbered}
 use Rattle.participant.specs.declared.Key.{Key}
 use Rattle.participant.specs.declared.Slot.{Slot}
 use Rattle.participant.specs.declared.Participant.{Participant}
-use Rattle.image_rules.specs.Rules.{inRanges, twoBits, useGood, unusedZero, ownTimely, keysDistinct, keyNumbered, notAbove}
+use Rattle.image_rules.specs.Rules.{inRanges, twoBits, useGood, unusedZero, ownTimely, keysDistinct, keyNumbered, withinOurs}
 
 unfoldable pub ownGood : Participant → Bool
 ownGood p = inRanges p && (unusedZero p && ownTimely p)
@@ -31,7 +31,7 @@ peersGood own clock [] = true
 peersGood own clock (q ∷ qs) = peerGood own clock q && (absent (q .mi) qs && peersGood own clock qs)
 
 abbrev pub numberGood : Mi → ℕ → Key → Bool
-numberGood own kn k = keyNumbered k && notAbove own kn k
+numberGood own kn k = keyNumbered k && withinOurs own kn k
 
 unfoldable pub keyGood : Mi → ℕ → Key → Bool
 keyGood own kn k = ltb (k .an) 4 && (ltb (k .confidentiality) 4 && (useGood k && numberGood own kn k))

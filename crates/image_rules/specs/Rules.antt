@@ -67,8 +67,8 @@ abbrev pub keyNumbered : Key → Bool
 keyNumbered k = not (eqb (k .kn) 0)
 
 -- "nor above ours under our MI"
-abbrev pub notAbove : Mi → ℕ → Key → Bool
-notAbove own kn k = only (miSame own (k .mi)) (leb (k .kn) kn)
+abbrev pub withinOurs : Mi → ℕ → Key → Bool
+withinOurs own kn k = only (miSame own (k .mi)) (leb (k .kn) kn)
 
 unfoldable pub rules : Participant → Bool
 rules p =
@@ -81,4 +81,4 @@ rules p =
     && (peerRules (p .mi) (p .clock) (entries (p .table))
     && (keysDistinct p
     && (everyKey keyNumbered p
-    && everyKey (notAbove (p .mi) (p .kn)) p))))))))
+    && everyKey (withinOurs (p .mi) (p .kn)) p))))))))

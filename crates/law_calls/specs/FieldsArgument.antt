@@ -15,7 +15,8 @@ use Rattle.participant.specs.Keys.{noSlot, withKey}
 use Rattle.call_changes.specs.Renew.{renewed, newMiFacts, newMiOf}
 use Rattle.call_changes.specs.Report.{installed, reportFacts, reported}
 use Rattle.call_distribute.specs.Distribute.{nextAn, freshKey, withFresh, distributeFacts, distributedOf}
-use Rattle.participant.proofs.Settle.{on-done, settle-cases, numbered}
+use Rattle.participant.specs.First.{numbered}
+use Rattle.participant.proofs.Settle.{on-done, settle-cases}
 use Rattle.law_calls.specs.Settled.{distribute-settles, new-mi-settles, report-settles}
 use Rattle.law_calls.specs.Fields.{setFlags, Handed, Empty, TickLeaves, ReportLeaves, NewMiLeaves, DistributeLeaves, DistributeHands, AnBelow, FreshEmpty, CreateEmpty, NewMiEmpties, ReportSets}
 

@@ -12,7 +12,7 @@ use Rattle.base_mi.specs.declared.Mi.{Mi}
 use Rattle.table_lookup.specs.Look.{staleFor, noRoomFor}
 use Rattle.participant.specs.Call.{agedTo}
 use Rattle.participant.specs.declared.Participant.{Participant}
-use Rattle.participant.proofs.Settle.{NoneHolds}
+use Rattle.participant.specs.First.{NoneHolds}
 use Rattle.call_questions.specs.Ask.{freshDue}
 use Rattle.call_changes.specs.Renew.{inUse, newMiFacts}
 use Rattle.call_distribute.specs.Distribute.{distributeFacts}

@@ -6,7 +6,7 @@ use mathlib.Core.Bool.{Bool}
 use mathlib.Core.List.{List}
 use Rattle.base_facts.specs.Facts.{firstOf}
 use Rattle.participant.specs.declared.Participant.{Participant}
-use Rattle.participant.proofs.Settle.{First, NoneHolds}
+use Rattle.participant.specs.First.{First, NoneHolds}
 use Rattle.call_judge.specs.Judge.{basicIn, walkIn, placesIn}
 use Rattle.call_receive.specs.Receive.{receiveFacts, refusedOf, acceptedOf, acceptedBy, receivedOf}
 

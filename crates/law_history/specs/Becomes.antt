@@ -19,7 +19,7 @@ use Rattle.call_changes.specs.Renew.{renewed}
 use Rattle.call_distribute.specs.Distribute.{withFresh}
 use Rattle.participant.specs.Keys.{withKey, withoutKeys}
 use Rattle.participant.specs.declared.Participant.{Participant}
-use Rattle.participant.proofs.Settle.{NoneHolds}
+use Rattle.participant.specs.First.{NoneHolds}
 use Rattle.call_judge.specs.Judge.{basicIn, walkIn, placesIn, frameFacts}
 use Rattle.call_hearing.specs.Keys.{isServer, isKnown, keyFrom, keyedOf}
 use Rattle.call_hearing.specs.Proof.{provesIn}

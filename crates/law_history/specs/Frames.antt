@@ -3,7 +3,7 @@ use Prim.Native.Nat.{ℕ, _+_}
 use mathlib.Core.Path.{_≡_}
 use mathlib.Core.List.{List}
 use lib.ListN.{length}
-use Rattle.base_mi.proofs.Laws.{Fitting}
+use Rattle.base_mi.specs.Fitting.{Fitting}
 use Rattle.participant.specs.declared.call.Answer.the-variants.{Done}
 use Rattle.call_judge.specs.Judge.{basicIn}
 use Rattle.call_send.specs.Send.{leftBy}

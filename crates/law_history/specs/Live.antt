@@ -24,7 +24,7 @@ listed frame =
 
 -- A proof of m at a time: an accepted frame of m's, and since then no new identifier was taken; its Live or Potential list has our
 -- identifier with a number that was recent by then, of those sent under it.
-pub record Proof (last : ℕ) (k : Creation) (cs : List Call) (m : Mi) (time : ℕ) : Type 0 where
+pub record Proof (many : ℕ) (k : Creation) (cs : List Call) (m : Mi) (time : ℕ) : Type 0 where
   pub verdict : Bool
   pub frame : List ℕ
   pub made : Made k cs (receives time verdict frame)
@@ -32,12 +32,12 @@ pub record Proof (last : ℕ) (k : Creation) (cs : List Call) (m : Mi) (time : �
   pub since : NoneTaken k (made .later) (receives time verdict frame ∷ made .earlier)
   pub number : ℕ
   pub named : List·Memᴰ (record { mi = identifier k cs; mn = number }) (listed frame)
-  pub recent : Recent last number (numbersSent k (made .earlier))
+  pub recent : Recent many number (numbersSent k (made .earlier))
 
 -- ".. less than 6,000 ms before the clock": a life time, and one of the last so many numbers
-pub record ProvedLately (life last : ℕ) (k : Creation) (cs : List Call) (m : Mi) : Type 0 where
+pub record ProvedLately (life many : ℕ) (k : Creation) (cs : List Call) (m : Mi) : Type 0 where
   pub time : ℕ
-  pub proof : Proof last k cs m time
+  pub proof : Proof many k cs m time
   pub lately : after k cs .clock < time + life
 
 abbrev pub isLiveAfter : Creation → List Call → Mi → Bool

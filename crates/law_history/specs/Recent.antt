@@ -11,7 +11,7 @@ use Rattle.law_history.specs.Calls.{Creation, Call, after, numbersSent}
 
 -- A number is recent if it is one of the last so many of the numbers sent, which stand newest first.
 abbrev pub Recent : ℕ → ℕ → List ℕ → Type 0
-Recent last n numbers = List·Memᴰ n (take last numbers)
+Recent many n numbers = List·Memᴰ n (take many numbers)
 
 -- n, n - 1, .. 1
 abbrev pub countdown : ℕ → List ℕ

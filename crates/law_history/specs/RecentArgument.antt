@@ -10,7 +10,7 @@ use lib.Dec.{leb, ltb, eqb}
 use borrow.Author.Tests.{not-true, eqb-true, eqb-false, ne-eqb, leb-true, le-leb, ltb-true, lt-ltb}
 use Rattle.law_lists.specs.Laws.{by-cases, first-of, second-of}
 use Rattle.participant.specs.declared.Participant.{Participant}
-use Rattle.participant.proofs.Settle.{NoneHolds}
+use Rattle.participant.specs.First.{NoneHolds}
 use Rattle.law_calls.specs.FieldsArgument.{create-empty}
 use Rattle.law_calls.specs.Passed.{send-passed}
 use Rattle.call_hearing.specs.Proof.{window, isRecent}

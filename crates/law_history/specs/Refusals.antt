@@ -1,4 +1,4 @@
--- "A refusal has one number, in its order, and changes neither the participant nor one octet of a lent buffer": what that means of a call.
+-- "A refusal has one number, in the order of SCOPE, and changes neither the participant nor one octet of a lent buffer": what that means of a call.
 -- Proved in RefusalsArgument.
 use Prim.Native.Nat.{ℕ}
 use mathlib.Core.Path.{_≡_}
@@ -7,7 +7,7 @@ use mathlib.Core.List.{List, [], _∷_, map}
 use mathlib.Core.Option.{Option, none, some}
 use mathlib.Core.Logic.{_↔_}
 use Rattle.participant.specs.declared.Participant.{Participant}
-use Rattle.participant.proofs.Settle.{NoneHolds, First}
+use Rattle.participant.specs.First.{NoneHolds, First}
 use Rattle.participant.specs.declared.call.Answer.the-variants as onCall
 use Rattle.call_receive.specs.declared.Answer.the-variants as onReceive
 use Rattle.call_send.specs.declared.Answer.the-variants as onSend
@@ -27,7 +27,7 @@ refusalIn (toAsk p) = none
 refusalIn (toSave (onWrite.Octets n) left) = none
 refusalIn (toSave (onWrite.Refused n) left) = some n
 
--- "Receive 1 to 12. Send: 1, 14, 13. Distribute: 1, 15, 17, 14.", and so on: the numbers of a call's facts in their order.
+-- The numbers of a call's facts in their order: "Send: 1, 14, 13. Distribute: 1, 15, 17, 14."; the others by what they are about, lowest first.
 abbrev pub order : Call → List ℕ
 order (receives time verdict frame) = 1 ∷ 2 ∷ 3 ∷ 4 ∷ 5 ∷ 6 ∷ 7 ∷ 8 ∷ 9 ∷ 10 ∷ 11 ∷ 12 ∷ []
 order (sends time latestPn oldPn out) = 1 ∷ 14 ∷ 13 ∷ []

@@ -14,7 +14,8 @@ use Rattle.law_lists.specs.Laws.{by-cases, never, clash, first-of, second-of}
 use Rattle.participant.specs.Call.{ticked}
 use Rattle.participant.specs.declared.Participant.{Participant}
 use Rattle.participant.specs.declared.call.Answer.the-variants as onCall
-use Rattle.participant.proofs.Settle.{NoneHolds, numbered, First, first-holds, none-holds, first-number, none-number}
+use Rattle.participant.specs.First.{NoneHolds, numbered, First}
+use Rattle.participant.proofs.Settle.{first-holds, none-holds, first-number, none-number}
 use Rattle.call_changes.specs.Renew.{newMiOf}
 use Rattle.call_changes.specs.Report.{reported}
 use Rattle.call_distribute.specs.Distribute.{distributedOf}
@@ -32,7 +33,7 @@ abbrev told : ℕ → Option ℕ
 told n = cond (eqb n 0) none (some n)
 
 -- the fact that a list's number names isn't 0
-counted : (earlier later : List (ℕ × Bool)) (n : ℕ) → numbered (earlier ++ ((n, true) ∷ later)) ≡ true → eqb n 0 ≡ false
+pub counted : (earlier later : List (ℕ × Bool)) (n : ℕ) → numbered (earlier ++ ((n, true) ∷ later)) ≡ true → eqb n 0 ≡ false
 counted [] later n k = not-true (eqb n 0) (first-of (not (eqb n 0)) (numbered later) k)
 counted (f ∷ fs) later n k = counted fs later n (second-of (not (eqb (f .0) 0)) (numbered (fs ++ ((n, true) ∷ later))) k)
 

@@ -15,7 +15,8 @@ use Rattle.call_distribute.specs.Distribute.{withFresh, distributeFacts, distri
 use Rattle.participant.specs.declared.Participant.{Participant}
 use Rattle.participant.specs.declared.call.Called.{Called}
 use Rattle.participant.specs.declared.call.Answer.the-variants.{Done, Refused}
-use Rattle.participant.proofs.Settle.{NoneHolds, numbered, none-holds}
+use Rattle.participant.specs.First.{NoneHolds, numbered}
+use Rattle.participant.proofs.Settle.{none-holds}
 use Rattle.call_judge.specs.Judge.{basicIn, walkIn, placesIn, frameFacts}
 use Rattle.call_receive.specs.Receive.{tableFacts, receiveFacts, acceptedBy, acceptedOf, receivedOf}
 use Rattle.call_receive.specs.Receive as receive

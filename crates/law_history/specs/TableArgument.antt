@@ -16,7 +16,7 @@ use Rattle.call_changes.specs.Renew.{renewed}
 use Rattle.call_distribute.specs.Distribute.{withFresh}
 use Rattle.participant.specs.Keys.{withKey}
 use Rattle.participant.specs.declared.Participant.{Participant}
-use Rattle.participant.proofs.Settle.{NoneHolds}
+use Rattle.participant.specs.First.{NoneHolds}
 use Rattle.law_calls.specs.FieldsArgument.{create-empty}
 use Rattle.law_calls.specs.Passed.{receive-passed}
 use Rattle.call_judge.specs.Judge.{basicIn}

@@ -10,7 +10,8 @@ use Rattle.base_octets.specs.Number.{beOf}
 use Rattle.base_octets.proofs.Laws.{length-beOf}
 use Rattle.base_octets.proofs.Fields.{Stands, first, second, number-stands}
 use Rattle.base_mi.specs.Mi.{miOctets}
-use Rattle.base_mi.proofs.Laws.{Fitting, length-mi, mi-stands}
+use Rattle.base_mi.specs.Fitting.{Fitting}
+use Rattle.base_mi.proofs.Laws.{length-mi, mi-stands}
 use Rattle.base_packed.specs.Basic.{octetOf}
 use Rattle.frame.specs.Basic.{basicFields}
 use Rattle.frame_writer.specs.Frame.{headerOctets, senderFlags, fixedOctets, cknOf, basicOctets, bodyOctets, frameOf}

@@ -1,8 +1,8 @@
 -- What a creation and a call can carry: each number has its width and each octet 8 bits.
 use Prim.Native.Nat.{_^_, _<_}
 use mathlib.Core.List.{List, [], _∷_}
-use Rattle.base_octets.proofs.Laws.{Octets}
-use Rattle.base_mi.proofs.Laws.{Fitting}
+use Rattle.base_octets.specs.Octets.{Octets}
+use Rattle.base_mi.specs.Fitting.{Fitting}
 use Rattle.law_history.specs.Calls.{Creation, Call, receives, sends, distributes, ticks, renews, reports, asks, saves}
 
 -- "Creating takes a time, MI, SCI, priority, capability, desired flag and CKN"

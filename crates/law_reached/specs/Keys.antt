@@ -6,10 +6,10 @@ use mathlib.Core.List.{List, []}
 use native.Mathlib.Omega.{arith}
 use lib.Dec.{eqb}
 use borrow.Author.Tests.{le-leb, lt-ltb, eqb-true, ne-eqb, not-false}
-use Rattle.base_octets.proofs.Laws.{Octets}
+use Rattle.base_octets.specs.Octets.{Octets}
 use Rattle.base_mi.specs.Mi.{miSame}
 use Rattle.base_mi.specs.declared.Mi.{Mi}
-use Rattle.base_mi.proofs.Laws.{Fitting}
+use Rattle.base_mi.specs.Fitting.{Fitting}
 use Rattle.frame_sets.proofs.Laws.{or-false}
 use Rattle.law_lists.specs.Laws.{by-cases, clash, both, first-of, second-of}
 use Rattle.law_kept.specs.Same.{same-eq, same-refl, same-sym}
@@ -23,7 +23,7 @@ use Rattle.participant.specs.declared.Key.{Key}
 use Rattle.participant.specs.declared.Slot.{Slot}
 use Rattle.participant.specs.declared.Participant.{Participant}
 use Rattle.participant.specs.declared.call.Answer.the-variants.{Done}
-use Rattle.participant.proofs.Settle.{NoneHolds}
+use Rattle.participant.specs.First.{NoneHolds}
 use Rattle.law_calls.specs.FieldsArgument.{an-below}
 use Rattle.law_calls.specs.Passed.{receive-passed, distribute-passed, renew-passed}
 use Rattle.law_calls.specs.NeverArgument.{risen}

@@ -10,3 +10,5 @@ pub mod Saved
 pub mod SavedArgument
 pub mod Sends
 pub mod SendsArgument
+pub mod Alone
+pub mod AloneArgument

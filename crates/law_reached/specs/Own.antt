@@ -8,7 +8,7 @@ use lib.ListN.{length, drop, replicate}
 use lib.Seq.{length-sets, sets-eq, drop-at}
 use lib.Dec.{eqb, ltb}
 use borrow.Author.Tests.{le-leb, ltb-false, ne-eqb}
-use Rattle.base_mi.proofs.Laws.{Fitting}
+use Rattle.base_mi.specs.Fitting.{Fitting}
 use Rattle.frame_sets.proofs.Laws.{or-false}
 use Rattle.law_lists.specs.Laws.{both}
 use Rattle.participant.specs.Call.{agedTo}
@@ -20,7 +20,8 @@ use Rattle.participant.specs.Keys.{withKey}
 use Rattle.participant.specs.declared.Participant.{Participant}
 use Rattle.participant.specs.declared.call.Called.{Called}
 use Rattle.participant.specs.declared.call.Answer.the-variants.{Done}
-use Rattle.participant.proofs.Settle.{NoneHolds, on-done}
+use Rattle.participant.specs.First.{NoneHolds}
+use Rattle.participant.proofs.Settle.{on-done}
 use Rattle.law_calls.specs.Settled.{create-settles}
 use Rattle.law_calls.specs.Passed.{send-passed, distribute-passed}
 use Rattle.law_calls.specs.NeverArgument.{risen}

@@ -5,9 +5,10 @@ use mathlib.Core.Bool.{Bool, true, false}
 use mathlib.Core.List.{List, [], _∷_}
 use native.Mathlib.Omega.{arith}
 use borrow.Author.Tests.{lt-ltb}
-use Rattle.base_octets.proofs.Laws.{Octets, beAt-lt}
+use Rattle.base_octets.specs.Octets.{Octets}
+use Rattle.base_octets.proofs.Laws.{beAt-lt}
 use Rattle.base_mi.specs.Mi.{miAt, miSame}
-use Rattle.base_mi.proofs.Laws.{Fitting}
+use Rattle.base_mi.specs.Fitting.{Fitting}
 use Rattle.frame.specs.Basic.{basicFields}
 use Rattle.law_lists.specs.Lists.{every}
 use Rattle.table.specs.Table.{blankPeer, entries}
@@ -29,7 +30,7 @@ use Rattle.call_distribute.specs.Distribute.{withFresh}
 use Rattle.participant.specs.Keys.{withKey}
 use Rattle.participant.specs.declared.Participant.{Participant}
 use Rattle.participant.specs.declared.call.Answer.the-variants.{Done}
-use Rattle.participant.proofs.Settle.{NoneHolds}
+use Rattle.participant.specs.First.{NoneHolds}
 use Rattle.law_calls.specs.Passed.{receive-passed}
 use Rattle.call_judge.specs.Judge.{basicIn}
 use Rattle.call_receive.specs.Receive.{heardOf}

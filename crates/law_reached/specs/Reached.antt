@@ -1,4 +1,4 @@
--- "Each participant that a history reaches is well formed." Proved in ReachedArgument.
+-- Each participant that a history reaches is well formed. Proved in ReachedArgument.
 use mathlib.Core.Path.{_≡_}
 use mathlib.Core.List.{List}
 use Rattle.participant.specs.declared.call.Answer.the-variants.{Done}

@@ -6,7 +6,7 @@ use Rattle.law_lists.specs.Laws.{both}
 use Rattle.table.specs.Table.{entries}
 use Rattle.participant.specs.declared.Participant.{Participant}
 use Rattle.participant.specs.declared.call.Answer.the-variants.{Done}
-use Rattle.participant.proofs.Settle.{NoneHolds}
+use Rattle.participant.specs.First.{NoneHolds}
 use Rattle.image_rules.specs.Rules.{rules}
 use Rattle.image_rules.proofs.Laws.{peers-by-rule, by-record}
 use Rattle.law_saved.specs.WellFormed.{WellFormed}

@@ -8,7 +8,8 @@ use lib.ListN.{length, getD}
 use lib.Dec.{leb, eqb}
 use borrow.Author.Tests.{eqb-true, lt-leb}
 use Rattle.base_octets.specs.Number.{beAt}
-use Rattle.base_octets.proofs.Laws.{Octets, beAt-lt}
+use Rattle.base_octets.specs.Octets.{Octets}
+use Rattle.base_octets.proofs.Laws.{beAt-lt}
 use Rattle.frame_sets.specs.Kinds.{sakAt, sakIn}
 use Rattle.frame_places.specs.Once.{noPlaces, placesWith}
 use Rattle.frame_sets.specs.Set.{badSet}

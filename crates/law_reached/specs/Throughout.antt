@@ -2,7 +2,7 @@
 use mathlib.Core.List.{List, [], _∷_, _++_}
 use Rattle.law_lists.specs.Laws.{by-cases}
 use Rattle.participant.specs.declared.Participant.{Participant}
-use Rattle.participant.proofs.Settle.{NoneHolds}
+use Rattle.participant.specs.First.{NoneHolds}
 use Rattle.law_history.specs.Calls.{Creation, Call, after, accepted, Made}
 use Rattle.law_history.specs.Steps.{facts, becomes, accepted-none}
 use Rattle.law_history.specs.Splits.{after-accepted, after-refused}

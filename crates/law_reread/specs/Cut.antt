@@ -9,7 +9,8 @@ use lib.Seq.{sets, sets-eq, take-add, drop-drop, take-suc, getD-drop, length-tak
 use borrow.Author.Tests.{le-ltb}
 use Rattle.base_octets.specs.Number.{beAt, beOf}
 use Rattle.base_octets.specs.Run.{partOf}
-use Rattle.base_octets.proofs.Laws.{Octets, be-back}
+use Rattle.base_octets.specs.Octets.{Octets}
+use Rattle.base_octets.proofs.Laws.{be-back}
 use Rattle.base_octets.proofs.Fields.{Stands, second, moved}
 use Rattle.base_mi.specs.Mi.{miAt, miOctets}
 

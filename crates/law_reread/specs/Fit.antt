@@ -3,7 +3,7 @@ use Prim.Native.Nat.{_^_, _<_}
 use mathlib.Core.Path.{_≡_}
 use mathlib.Core.List.{List, [], _∷_}
 use lib.ListN.{length}
-use Rattle.base_mi.proofs.Laws.{Fitting}
+use Rattle.base_mi.specs.Fitting.{Fitting}
 use Rattle.table.specs.declared.Peer.{Peer}
 use Rattle.participant.specs.declared.Key.{Key}
 use Rattle.participant.specs.declared.Participant.{Participant}

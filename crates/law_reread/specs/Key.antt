@@ -4,7 +4,7 @@ use mathlib.Core.Path.{_≡_}
 use mathlib.Core.List.{List}
 use mathlib.Core.Bool.{true}
 use lib.ListN.{length}
-use Rattle.base_octets.proofs.Laws.{Octets}
+use Rattle.base_octets.specs.Octets.{Octets}
 use Rattle.base_octets.proofs.Fields.{Stands}
 use Rattle.participant.specs.declared.Key.{Key}
 use Rattle.image_key.specs.Key.{keyOctets, keyAt, keyClean}

@@ -5,7 +5,7 @@ use mathlib.Core.List.{List}
 use mathlib.Core.Bool.{true}
 use lib.ListN.{length}
 use Rattle.base_octets.specs.Number.{beAt}
-use Rattle.base_octets.proofs.Laws.{Octets}
+use Rattle.base_octets.specs.Octets.{Octets}
 use Rattle.base_octets.proofs.Fields.{Stands}
 use Rattle.table.specs.Table.{emptyTable}
 use Rattle.participant.specs.Record.{setTable, setLatest, setOld}

@@ -5,7 +5,7 @@ use mathlib.Core.List.{List}
 use mathlib.Core.Bool.{Bool, true}
 use lib.ListN.{length}
 use lib.Dec.{ltb}
-use Rattle.base_octets.proofs.Laws.{Octets}
+use Rattle.base_octets.specs.Octets.{Octets}
 use Rattle.base_octets.proofs.Fields.{Stands}
 use Rattle.law_lists.specs.Lists.{every}
 use Rattle.table.specs.declared.Peer.{Peer}

@@ -8,7 +8,7 @@ use lib.Dec.{eqb}
 use Rattle.base_facts.specs.Facts.{paddedOf}
 use Rattle.base_mi.specs.Entry.{entriesOf}
 use Rattle.base_mi.specs.declared.entry.Entry.{Entry}
-use Rattle.base_mi.proofs.Laws.{Fitting}
+use Rattle.base_mi.specs.Fitting.{Fitting}
 use Rattle.base_facts.specs.Numbers.{agility}
 use Rattle.frame.specs.Basic.{icvPlace}
 use Rattle.frame.specs.declared.Basic.{Basic}

@@ -10,9 +10,10 @@ use lib.Dec.{ltb, eqb, leb}
 use borrow.Author.Tests.{eqb-true, leb-true, ltb-true, lt-ltb}
 use Rattle.base_octets.specs.Number.{beAt}
 use Rattle.base_octets.specs.Run.{partOf}
-use Rattle.base_octets.proofs.Laws.{Octets, beAt-lt}
+use Rattle.base_octets.specs.Octets.{Octets}
+use Rattle.base_octets.proofs.Laws.{beAt-lt}
 use Rattle.base_mi.specs.Mi.{miAt}
-use Rattle.base_mi.proofs.Laws.{Fitting}
+use Rattle.base_mi.specs.Fitting.{Fitting}
 use Rattle.base_packed.specs.Bit.{bit}
 use Rattle.table.specs.Table.{entries}
 use Rattle.table_expiry.specs.Kept.{only}

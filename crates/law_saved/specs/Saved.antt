@@ -5,7 +5,7 @@ use mathlib.Core.Path.{_≡_}
 use mathlib.Core.Logic.{_↔_}
 use mathlib.Core.List.{List}
 use lib.ListN.{length}
-use Rattle.base_octets.proofs.Laws.{Octets}
+use Rattle.base_octets.specs.Octets.{Octets}
 use Rattle.participant.specs.Call.{doneOf, refusedOf}
 use Rattle.call_creation.specs.Create.{emptyParticipant}
 use Rattle.participant.specs.declared.Participant.{Participant}

@@ -3,7 +3,7 @@ use Prim.Native.Nat.{ℕ}
 use mathlib.Core.Path.{_≡_, ap, sym, _∙_}
 use mathlib.Core.List.{List}
 use mathlib.Core.Bool.{true, false}
-use Rattle.base_octets.proofs.Laws.{Octets}
+use Rattle.base_octets.specs.Octets.{Octets}
 use Rattle.law_lists.specs.Laws.{by-cases, never}
 use Rattle.participant.specs.Call.{doneOf, refusedOf}
 use Rattle.call_creation.specs.Create.{emptyParticipant}

@@ -9,26 +9,11 @@ use lib.Dec.{eqb}
 use borrow.Author.Tests.{eq-eqb, ne-eqb, eqb-true, eqb-false, ltb-false, not-true}
 use Rattle.base_facts.specs.Facts.{firstOf}
 use Rattle.law_lists.specs.Laws.{by-cases, never, clash, first-of, second-of}
+use Rattle.participant.specs.First.{NoneHolds, numbered, First}
 use Rattle.participant.specs.declared.Participant.{Participant}
 use Rattle.participant.specs.declared.call.Called.{Called}
 use Rattle.participant.specs.declared.call.Answer.the-variants.{Done, Refused}
 use Rattle.participant.specs.Call.{settle, doneOf, refusedOf, fact1}
-
-abbrev pub NoneHolds : List (ℕ × Bool) → Type 0
-NoneHolds [] = Unit {0}
-NoneHolds (f ∷ fs) = (f .1 ≡ false) × NoneHolds fs
-
--- no fact has the number 0
-abbrev pub numbered : List (ℕ × Bool) → Bool
-numbered [] = true
-numbered (f ∷ fs) = not (eqb (f .0) 0) && numbered fs
-
--- the fact with number n holds and no earlier one does
-pub record First (fs : List (ℕ × Bool)) (n : ℕ) : Type 0 where
-  pub earlier : List (ℕ × Bool)
-  pub later : List (ℕ × Bool)
-  pub is : fs ≡ earlier ++ ((n, true) ∷ later)
-  pub none : NoneHolds earlier
 
 -- the list's first fact holds, or the rest has the first that does
 first-here : (f : ℕ × Bool) (fs : List (ℕ × Bool)) → f .1 ≡ true → First (f ∷ fs) (f .0)

@@ -1,3 +1,4 @@
 pub mod Record
+pub mod First
 pub mod Call
 pub mod Keys

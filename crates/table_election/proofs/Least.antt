@@ -20,6 +20,7 @@ use Rattle.table.specs.Table.{entries}
 use Rattle.table_lookup.specs.Look.{isLive, heldIn, liveFor}
 use Rattle.table_counts.specs.Counts.{liveCount}
 use Rattle.table_election.specs.Elect.{lower, rankOf, Candidate, ourselves, peerOf, mayLead, eligible, contenders, candidates, least, winner, elected}
+use Rattle.table_election.specs.Least.{Least}
 use Rattle.table_election.specs.Lead.{leader, leadStep, ranks, serverLed, firstLead}
 use Rattle.table_expiry.specs.Kept.{absent, distinct}
 use Rattle.law_lists.specs.Laws.{by-cases, clash, never, first-of, mem-those, those-mem, mem-map, map-mem}
@@ -58,11 +59,6 @@ pub led-winner : (own : Rank) (l : List Peer) → serverLed (leader (firstLead o
 led-winner own l = by-cases (mayLead (own .priority)) (λ e. rw e (led-least true own (those eligible l))) (λ e. rw e (led-peers (those eligible l)))
 
 -- ---- the winner is the least
-
--- c may be elected, and nobody that may be has a lower rank
-pub record Least (own : Rank) (l : List Peer) (c : Candidate) : Type 0 where
-  pub among : List·Memᴰ c (candidates own l)
-  pub lowest : (d : Candidate) → List·Memᴰ d (candidates own l) → lower (d .rank) (c .rank) ≡ false
 
 least-among : (c : Candidate) (cs : List Candidate) → List·Memᴰ (least c cs) (c ∷ cs)
 least-among c [] = List·Memᴰ·head refl

@@ -1,2 +1,3 @@
 pub mod Elect
+pub mod Least
 pub mod Lead

@@ -1,12 +1,10 @@
-// Big-endian numbers at a place of a slice, read and written, and beside them runs of octets. Total: past the end an octet reads
+// Big-endian numbers at a place of a slice, read and written. Total: past the end an octet reads
 // as 0 and is not written.
 ghost use mathlib.Core.Path.{_≡_};
 ghost use Prim.Native.Nat.{_+_, _≤_};
 ghost use lib.ListN.{getD, length, set};
 ghost use lib.Seq.{sets};
 ghost use Rattle.base_octets.specs.Number.{beAt, beOf};
-
-pub mod run;
 
 fn wide(x: u8) -> u64
     ensures { λ r. ⌜ r ≡ x ⌝ }

@@ -1,7 +1,6 @@
 // Creating a participant: refusal 15.
 use base_facts::Check;
 use base_mi::Mi;
-use base_octets::run;
 use participant::Participant;
 use participant::call;
 use participant::call::Called;
@@ -55,7 +54,7 @@ fn first_32(s: &[u8]) -> [u8; 32]
     ensures { λ r. ⌜ r ≡ first32 (now (s .entry)) ⌝ }
 {
     let mut out = [0u8; 32];
-    run::put_all(&mut out, 0, s);
+    base_runs::put_all(&mut out, 0, s);
     out
 }
 

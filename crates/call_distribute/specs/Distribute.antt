@@ -12,7 +12,7 @@ use Rattle.participant.specs.declared.call.Called.{Called}
 use Rattle.participant.specs.Record.{first24, setKn, setMark, setDistributed, setWrapped}
 use Rattle.participant.specs.Call.{settle, fact1, agedTo}
 use Rattle.participant.specs.Keys.{withKey}
-use Rattle.call_questions.specs.Ask.{freshDue}
+use Rattle.call_standing.specs.Standing.{freshDue}
 
 -- "AN = latest's AN + 1 modulo 4 (0 if no key; here)"
 unfoldable pub nextAn : Slot → ℕ

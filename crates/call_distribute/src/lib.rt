@@ -1,7 +1,5 @@
 // Distributing a fresh SAK: refusals 1, 15, 17, 14.
 use base_facts::Check;
-use base_octets::run;
-use call_questions::standing;
 use participant::Key;
 use participant::Participant;
 use participant::Slot;
@@ -51,7 +49,7 @@ fn first_24(s: &[u8]) -> [u8; 24]
     ensures { λ r. ⌜ r ≡ first24 (now (s .entry)) ⌝ }
 {
     let mut out = [0u8; 24];
-    run::put_all(&mut out, 0, s);
+    base_runs::put_all(&mut out, 0, s);
     out
 }
 
@@ -78,7 +76,7 @@ pub fn distribute(p: Participant, time: u64, wrapped: &[u8]) -> Called
         return call::refused(p, 15);
     };
     let q = call::aged_to(p, time);
-    let Check::Passed = base_facts::fail_if(!standing::fresh_due(q)) else {
+    let Check::Passed = base_facts::fail_if(!call_standing::fresh_due(q)) else {
         return call::refused(p, 17);
     };
     let Check::Passed = base_facts::fail_if(p.kn == 4294967295) else {

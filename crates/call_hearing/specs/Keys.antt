@@ -10,7 +10,7 @@ use Rattle.table_election.specs.declared.Server.the-variants.{Nobody, Ourselves
 use Rattle.frame_sets.specs.Kinds.{sakIn}
 use Rattle.frame_sets.specs.declared.kinds.SakHeader.{SakHeader}
 use Rattle.frame_places.specs.declared.Spot.{Spot}
-use Rattle.call_questions.specs.Ask.{serverOf}
+use Rattle.call_standing.specs.Standing.{serverOf}
 use Rattle.participant.specs.Keys.{ofMember, isKey, withKey, withoutKeys}
 use Rattle.participant.specs.declared.Key.{Key}
 use Rattle.participant.specs.declared.Participant.{Participant}

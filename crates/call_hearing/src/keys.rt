@@ -1,6 +1,5 @@
 // A Distributed SAK, used only if its sender is elected after the frame's update.
 use base_mi::Mi;
-use call_questions::standing;
 use frame_places::Spot;
 use frame_sets::kinds;
 use frame_sets::kinds::SakHeader;
@@ -21,7 +20,7 @@ pub struct Keyed {
 fn is_server(p: Participant, m: Mi) -> bool
     ensures { λ r. ⌜ r ≡ isServer p m ⌝ }
 {
-    match standing::server(p) {
+    match call_standing::server(p) {
         Server::Nobody => false,
         Server::Ourselves => false,
         Server::Elected(x) => base_mi::same_mi(x, m),

@@ -6,8 +6,6 @@ use table_election::Server;
 ghost use mathlib.Core.Path.{_≡_};
 ghost use Rattle.call_questions.specs.Ask.{atClock, askedServer, askedElected, askedFresh, askedLive, askedPotential, askedLives, askedPotentials, helloDue};
 
-pub mod standing;
-
 // The hello time in milliseconds.
 const HELLO: u64 = 2000;
 
@@ -20,19 +18,19 @@ fn at_clock(p: Participant) -> Participant
 pub fn server(p: Participant) -> Server
     ensures { λ r. ⌜ r ≡ askedServer p ⌝ }
 {
-    standing::server(at_clock(p))
+    call_standing::server(at_clock(p))
 }
 
 pub fn elected_self(p: Participant) -> bool
     ensures { λ r. ⌜ r ≡ askedElected p ⌝ }
 {
-    standing::elected_self(at_clock(p))
+    call_standing::elected_self(at_clock(p))
 }
 
 pub fn fresh_due(p: Participant) -> bool
     ensures { λ r. ⌜ r ≡ askedFresh p ⌝ }
 {
-    standing::fresh_due(at_clock(p))
+    call_standing::fresh_due(at_clock(p))
 }
 
 pub fn hello_due(p: Participant) -> bool

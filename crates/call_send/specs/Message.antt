@@ -8,7 +8,7 @@ use Rattle.frame_sets.specs.declared.kinds.KeyUse.{KeyUse}
 use Rattle.frame_writer.specs.declared.Sender.{Sender}
 use Rattle.frame_writer.specs.declared.Sak.{Sak}
 use Rattle.frame_writer.specs.declared.Mkpdu.{Mkpdu}
-use Rattle.call_questions.specs.Ask.{serverOf, electedSelf}
+use Rattle.call_standing.specs.Standing.{serverOf, electedSelf}
 use Rattle.participant.specs.Keys.{ofMember}
 use Rattle.participant.specs.declared.Slot.{Slot}
 use Rattle.participant.specs.declared.Participant.{Participant}

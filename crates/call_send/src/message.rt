@@ -1,6 +1,5 @@
 // What the next frame says.
 use base_mi::Mi;
-use call_questions::standing;
 use frame_sets::kinds::KeyUse;
 use frame_sets::kinds::SakUse;
 use frame_writer::Mkpdu;
@@ -43,7 +42,7 @@ fn key_use(s: Slot, pn: u32) -> KeyUse
 fn server_flag(p: Participant) -> bool
     ensures { λ r. ⌜ r ≡ serverFlag p ⌝ }
 {
-    match standing::server(p) {
+    match call_standing::server(p) {
         Server::Nobody => true,
         Server::Ourselves => true,
         Server::Elected(_) => false,
@@ -57,7 +56,7 @@ fn hands_out(p: Participant) -> bool
     let latest = p.latest;
     let own = p.mi;
     if keys::of_member(latest, own) {
-        if standing::elected_self(p) {
+        if call_standing::elected_self(p) {
             return !p.mark;
         }
     }

@@ -16,10 +16,12 @@ use Rattle.frame.specs.declared.BasicRead.{BasicRead}
 use Rattle.frame.specs.declared.BasicRead.the-variants.{Read, Refused as Unread}
 use Rattle.frame_sets.specs.Kinds.{typeOf}
 use Rattle.frame_places.specs.Once.{noPlaces, placesWith}
-use Rattle.frame_sets.specs.Set.{lenAt, badSet, setFields, extentOf}
+use Rattle.frame_sets.specs.Set.{lenAt, badSet, setFields}
+use Rattle.frame_rules.specs.Rules.{extentOf}
 use Rattle.frame_places.specs.declared.Places.{Places}
 use Rattle.frame_sets.specs.declared.Set.{Set}
-use Rattle.frame_sets.proofs.Laws.{type-kind, extent-least}
+use Rattle.frame_sets.proofs.Laws.{type-kind}
+use Rattle.frame_rules.proofs.Laws.{extent-least}
 use Rattle.frame_walk.specs.Walk.{nextAt, placesAfter, walkGo, walkFrom, walkOf}
 use Rattle.frame_walk.specs.declared.Walked.{Walked}
 use Rattle.frame_walk.specs.declared.Walked.the-variants.{End as Ended, Bad as Stopped}

@@ -6,7 +6,8 @@ use mathlib.Core.List.{List}
 use borrow.Author.Tests.{eq-eqb, ne-eqb, le-leb, lt-leb}
 use Rattle.frame_sets.specs.Kinds.{typeOf}
 use Rattle.frame_places.specs.Once.{placesWith}
-use Rattle.frame_sets.specs.Set.{badSet, setFields, setOf, extentOf}
+use Rattle.frame_sets.specs.Set.{badSet, setFields, setOf}
+use Rattle.frame_rules.specs.Rules.{extentOf}
 use Rattle.frame_places.specs.declared.Places.{Places}
 use Rattle.frame_sets.specs.declared.Set.{Set}
 use Rattle.frame_sets.specs.declared.SetRead.the-variants.{Good, Bad as Wrong}

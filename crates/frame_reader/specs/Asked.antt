@@ -9,7 +9,8 @@ use Rattle.frame.specs.declared.BasicRead.{BasicRead}
 use Rattle.frame.specs.declared.BasicRead.the-variants.{Read, Refused as Unread}
 use Rattle.frame_sets.specs.Kinds.{typeOf}
 use Rattle.frame_places.specs.Once.{noPlaces, placesWith}
-use Rattle.frame_sets.specs.Set.{badSet, setFields, extentOf}
+use Rattle.frame_sets.specs.Set.{badSet, setFields}
+use Rattle.frame_rules.specs.Rules.{extentOf}
 use Rattle.frame_places.specs.declared.Places.{Places}
 use Rattle.frame_sets.specs.declared.Set.{Set}
 use Rattle.frame_walk.specs.Walk.{nextAt, placesAfter, walkOf}

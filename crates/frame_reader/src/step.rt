@@ -80,7 +80,7 @@ pub fn step(frame: &[u8], p: Position) -> Stepped
         next: Next::Set(set),
         after: Position {
             refused: 0,
-            at: at + frame_sets::extent(t, set.len),
+            at: at + frame_rules::extent(t, set.len),
             stop,
             seen: frame_places::with(seen, t, at, set.len),
         },

@@ -1,132 +1,23 @@
 -- What the answers of a set's reading tell, and the kinds' type numbers.
 use Prim.Native.Nat.{ℕ, _+_, _≤_, _<_, _-_, _%_}
 use mathlib.Core.Path.{_≡_, refl, sym, ap, ap₂, _∙_}
-use mathlib.Core.Bool.{Bool, true, false, cond, not, _||_, true≢false}
-use mathlib.Core.Logic.{_⊎_, inl, inr}
+use mathlib.Core.Bool.{Bool, true, false, cond, not, _||_}
 use mathlib.Core.List.{List}
 use native.Mathlib.Omega.{arith}
 use lib.ListN.{length, getD}
-use lib.Dec.{eqb, ltb, leb}
-use borrow.Author.Tests.{ne-eqb, eqb-true, ltb-false, leb-true, le-leb, lt-leb, not-false}
-use Rattle.base_facts.specs.Facts.{paddedOf}
+use lib.Dec.{eqb, ltb}
+use borrow.Author.Tests.{ne-eqb, eqb-true, ltb-false, not-false}
 use Rattle.base_octets.specs.Number.{beAt}
 use Rattle.base_octets.specs.Octets.{Octets}
+use Rattle.frame_rules.proofs.Laws.{or-false, or-none, or-swap, extent-least, fits-room}
 use Rattle.frame_sets.specs.Kinds.{kindAt, typeOf}
-use Rattle.frame_sets.specs.Set.{lenAt, isList, allowed, extentOf, fits, unnumbered, badSet, setFields, setAnswer, setOf, allowedOthers, badShape, badHead, headOf, badBody, listLen, badList}
+use Rattle.frame_sets.specs.Set.{lenAt, badSet, setFields, setAnswer, setOf, badHead, headOf, badList}
+use Rattle.frame_rules.specs.Rules.{isList, allowed, extentOf, fits, unnumbered, allowedOthers, badShape, listLen}
 use Rattle.frame_places.specs.Once.{holds}
 use Rattle.frame_places.specs.declared.Places.{Places}
 use Rattle.frame_sets.specs.declared.Set.{Set}
 use Rattle.frame_sets.specs.declared.SetRead.the-variants.{Good, Bad}
 use Rattle.frame_sets.specs.declared.kinds.Kind.{Kind}
-
-pub or-false : (a b : Bool) → a || b ≡ false → (a ≡ false) × (b ≡ false)
-or-false false b e = (refl, e)
-or-false true b e = absurd (true≢false e)
-
-or-none : (a : Bool) → a || false ≡ a
-or-none true = refl
-or-none false = refl
-
-or-true : (a : Bool) → a || true ≡ true
-or-true true = refl
-or-true false = refl
-
-or-with : (a b c : Bool) → a || (b || c) ≡ (a || b) || c
-or-with true b c = refl
-or-with false b c = refl
-
-or-swap : (a b : Bool) → a || b ≡ b || a
-or-swap true b = sym (or-true b)
-or-swap false b = sym (or-none b)
-
-by-cases : {A : Type 0} (b : Bool) → (b ≡ true → A) → (b ≡ false → A) → A
-by-cases true h k = h refl
-by-cases false h k = k refl
-
--- ---- what a body of type 3 or 4 breaks
-
-pub use-good : (len kn : ℕ) → (len ≡ 0) ⊎ (len ≡ 40) → badBody 3 len kn ≡ false
-unfolding badBody
-use-good len kn (inl e) = rw e
-use-good len kn (inr e) = rw e
-
-pub use-bad : (len kn : ℕ) → ((len ≡ 0) ⊎ (len ≡ 40) → ⊥) → badBody 3 len kn ≡ true
-unfolding badBody
-use-bad len kn h = rw (ne-eqb len 0 (λ e. h (inl e)), ne-eqb len 40 (λ e. h (inr e)))
-
-pub sak-some : (len kn : ℕ) → (len ≡ 28) ⊎ ((len ≡ 36) ⊎ (len ≡ 52)) → badBody 4 len kn ≡ eqb kn 0
-unfolding badBody
-sak-some len kn (inl e) = rw e
-sak-some len kn (inr (inl e)) = rw e
-sak-some len kn (inr (inr e)) = rw e
-
-pub sak-bad : (len kn : ℕ) → (len ≡ 0 → ⊥) → ((len ≡ 28) ⊎ ((len ≡ 36) ⊎ (len ≡ 52)) → ⊥) → badBody 4 len kn ≡ true
-unfolding badBody
-sak-bad len kn z h = rw (ne-eqb len 0 z, ne-eqb len 28 (λ e. h (inl e)), ne-eqb len 36 (λ e. h (inr (inl e))), ne-eqb len 52 (λ e. h (inr (inr e))))
-
--- ---- the room of a set
-
--- a set takes four octets at least
-cond-least : (t : Bool) (n : ℕ) → 4 ≤ n → 4 ≤ cond t 4 n
-cond-least true n h = omega arith
-cond-least false n h = h
-
-pub extent-least : (t len : ℕ) → 4 ≤ extentOf t len
-unfolding extentOf
-extent-least t len = cond-least (eqb t 255) (4 + paddedOf len) (omega arith)
-
-cond-most : (t : Bool) (n : ℕ) → 4 ≤ n → cond t 4 n ≤ n
-cond-most true n h = h
-cond-most false n h = omega arith
-
-pub extent-most : (t len : ℕ) → extentOf t len ≤ 4 + paddedOf len
-unfolding extentOf
-extent-most t len = cond-most (eqb t 255) (4 + paddedOf len) (omega arith)
-
-fits-room : (b : Bool) (x room : ℕ) → cond b (eqb room x) (leb x room) ≡ true → x ≤ room
-fits-room true x room e = omega (arith, eqb-true room x e)
-fits-room false x room e = leb-true x room e
-
-fits-not : (b : Bool) (x room : ℕ) → room < x → cond b (eqb room x) (leb x room) ≡ false
-fits-not true x room h = ne-eqb room x (omega arith)
-fits-not false x room h = lt-leb x room h
-
-module _ (t len room kn : ℕ) (seen : Places) where
-  -- no set stands where not even a header fits
-  pub shape-no-room : room < 4 → badShape t len room kn seen ≡ true
-  unfolding badShape
-  shape-no-room h = let x = extent-least t len in rw (fits-not (eqb t 255) (extentOf t len) room (omega arith))
-
-  module _ (other : t ≡ 255 → ⊥) where
-    pub shape-tight : room < 4 + paddedOf len → badShape t len room kn seen ≡ true
-    unfolding badShape extentOf
-    shape-tight h = rw (ne-eqb t 255 other, lt-leb (4 + paddedOf len) room h)
-
-    -- the lengths but the lists', and the key number, are of types 3 and 4
-    body-rules : not (allowedOthers t len) || unnumbered t len kn ≡ badBody t len kn
-    unfolding badBody
-    body-rules =
-        by-cases (eqb t 1) (λ e. rw (eqb-true t 1 e)) (λ a.
-        by-cases (eqb t 2) (λ e. rw (eqb-true t 2 e)) (λ b.
-        by-cases (eqb t 3) (λ e. rw (eqb-true t 3 e)) (λ c.
-        by-cases (eqb t 4) (λ e. rw (eqb-true t 4 e)) (λ d. rw (a, b, c, d, ne-eqb t 255 other)))))
-
-    pub shape-body : 4 + paddedOf len ≤ room → badShape t len room kn seen ≡ badBody t len kn || holds seen t
-    unfolding badShape extentOf
-    shape-body h =
-        let e : fits t len room ≡ true = rw (ne-eqb t 255 other) (le-leb (4 + paddedOf len) room h) in
-        ap (λ (b : Bool). not b || (not (allowedOthers t len) || (unnumbered t len kn || holds seen t))) e
-        ∙ or-with (not (allowedOthers t len)) (unnumbered t len kn) (holds seen t)
-        ∙ ap (λ (b : Bool). b || holds seen t) body-rules
-
--- type 255
-pub shape-icv : (room kn : ℕ) (seen : Places) → badShape 255 16 room kn seen ≡ not (eqb room 4)
-unfolding badShape extentOf holds
-shape-icv room kn seen = or-none (not (eqb room 4))
-
-pub shape-icv-length : (len room kn : ℕ) (seen : Places) → (len ≡ 16 → ⊥) → badShape 255 len room kn seen ≡ true
-unfolding badShape extentOf
-shape-icv-length len room kn seen h = rw (ne-eqb len 16 h) (or-true (not (eqb room 4)))
 
 pub answer-bad : (t : Bool) (v : Set) → setAnswer t v ≡ Bad → t ≡ true
 answer-bad true v e = refl

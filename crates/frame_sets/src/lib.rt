@@ -4,8 +4,7 @@ use base_facts::Check;
 use frame_places::Places;
 ghost use mathlib.Core.Path.{_≡_};
 ghost use Prim.Native.Nat.{_<_, _^_};
-ghost use Rattle.base_facts.specs.Facts.{checkOf};
-ghost use Rattle.frame_sets.specs.Set.{lenAt, listLen, badBody, badShape, headOf, setOf, extentOf};
+ghost use Rattle.frame_sets.specs.Set.{lenAt, headOf, setOf};
 
 pub mod kinds;
 
@@ -28,42 +27,6 @@ fn set_len(frame: &[u8], at: usize) -> u16
     (base_octets::octet(frame, at + 2) % 16) as u16 * 256 + base_octets::octet(frame, at + 3) as u16
 }
 
-fn bad_body(t: u8, len: u16, kn: u32) -> bool
-    ensures { λ r. ⌜ r ≡ badBody t len kn ⌝ }
-{
-    match t {
-        3 => match len {
-            0 | 40 => false,
-            _ => true,
-        },
-        4 => match len {
-            0 => false,
-            28 | 36 | 52 => kn == 0,
-            _ => true,
-        },
-        _ => false,
-    }
-}
-
-// `room` is what there is from the set's header to the ICV.
-fn shape(t: u8, len: u16, room: usize, kn: u32, seen: Places) -> Check
-    ensures { λ r. ⌜ r ≡ checkOf (badShape t len room kn seen) ⌝ }
-{
-    if t == 255 {
-        if len == 16 {
-            return base_facts::fail_if(room != 4);
-        }
-        return Check::Failed;
-    }
-    if room < 4 + base_facts::padded(len) {
-        return Check::Failed;
-    }
-    if bad_body(t, len, kn) {
-        return Check::Failed;
-    }
-    base_facts::fail_if(frame_places::has(seen, t))
-}
-
 // The set at `at` by all rules but that on the lists' lengths, which a scan of the list tells.
 pub fn set_head(frame: &[u8], at: usize, stop: usize, seen: Places) -> SetRead
     ensures { λ r. ⌜ r ≡ headOf (now (frame .entry)) at stop seen ⌝ }
@@ -78,7 +41,7 @@ pub fn set_head(frame: &[u8], at: usize, stop: usize, seen: Places) -> SetRead
     let t = base_octets::octet(frame, at);
     let len = set_len(frame, at);
     let kn = base_octets::u32_at(frame, at + 4);
-    let Check::Passed = shape(t, len, room, kn, seen) else {
+    let Check::Passed = frame_rules::shape(t, len, room, kn, seen) else {
         return SetRead::Bad;
     };
     SetRead::Good(Set {
@@ -86,19 +49,6 @@ pub fn set_head(frame: &[u8], at: usize, stop: usize, seen: Places) -> SetRead
         len,
         kind: kinds::kind_at(frame, at, t, len),
     })
-}
-
-// The octets of entries in a body: all of it in a list, none in any other set.
-pub fn list_len(t: u8, len: u16) -> u16
-    ensures { λ r. ⌜ r ≡ listLen t len ⌝ }
-{
-    if t == 1 {
-        return len;
-    }
-    if t == 2 {
-        return len;
-    }
-    0
 }
 
 // The set at `at`, by all rules.
@@ -110,18 +60,8 @@ pub fn set_at(frame: &[u8], at: usize, stop: usize, seen: Places) -> SetRead
     };
     let k = set.kind;
     let len = set.len;
-    if list_len(kinds::type_of(k), len) % 16 == 0 {
+    if frame_rules::list_len(kinds::type_of(k), len) % 16 == 0 {
         return SetRead::Good(set);
     }
     SetRead::Bad
-}
-
-// The octets that a set takes, its header and padding with it; of type 255 the header only.
-pub fn extent(t: u8, len: u16) -> usize
-    ensures { λ r. ⌜ r ≡ extentOf t len ⌝ }
-{
-    if t == 255 {
-        return 4;
-    }
-    4 + base_facts::padded(len)
 }

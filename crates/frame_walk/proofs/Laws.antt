@@ -9,7 +9,7 @@ use lib.Dec.{leb}
 use borrow.Author.Tests.{le-leb, lt-leb, leb-false}
 use Rattle.frame_sets.specs.Set.{lenAt, badSet}
 use Rattle.frame_places.specs.declared.Places.{Places}
-use Rattle.frame_sets.proofs.Laws.{extent-least}
+use Rattle.frame_rules.proofs.Laws.{extent-least}
 use Rattle.frame_walk.specs.Walk.{nextAt, placesAfter, walkGo, walkFrom}
 use Rattle.frame_walk.specs.declared.Walked.the-variants.{End, Bad}
 

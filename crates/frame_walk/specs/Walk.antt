@@ -5,7 +5,8 @@ use mathlib.Core.Bool.{cond}
 use lib.ListN.{getD}
 use lib.Dec.{leb}
 use Rattle.frame_places.specs.Once.{noPlaces, placesWith}
-use Rattle.frame_sets.specs.Set.{lenAt, badSet, extentOf}
+use Rattle.frame_sets.specs.Set.{lenAt, badSet}
+use Rattle.frame_rules.specs.Rules.{extentOf}
 use Rattle.frame_places.specs.declared.Places.{Places}
 use Rattle.frame_walk.specs.declared.Walked.{Walked}
 use Rattle.frame_walk.specs.declared.Walked.the-variants.{End, Bad}

@@ -29,7 +29,7 @@ pub fn walk(frame: &[u8], from: usize, stop: usize) -> Walked
         let k = read.kind;
         let len = read.len;
         let t = kinds::type_of(k);
-        let mut left = frame_sets::list_len(t, len);
+        let mut left = frame_rules::list_len(t, len);
         while 0 < left {
             if left < 16 {
                 break 'sets Walked::Bad(at);
@@ -37,6 +37,6 @@ pub fn walk(frame: &[u8], from: usize, stop: usize) -> Walked
             left -= 16;
         }
         places = frame_places::with(places, t, at, len);
-        at += frame_sets::extent(t, len);
+        at += frame_rules::extent(t, len);
     }
 }

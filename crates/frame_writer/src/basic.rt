@@ -1,7 +1,6 @@
 // The EAPOL header and the Basic set.
 use crate::Sender;
 use base_facts::AGILITY;
-use base_octets::run;
 use base_packed::basic::Flags;
 ghost use mathlib.Core.Path.{_≡_};
 ghost use Prim.Native.Nat.{_+_, _≤_};
@@ -43,9 +42,9 @@ fn put_ckn(out: &mut [u8], ckn: &[u8])
     requires { ⌜ length (now ckn) ≤ 32 ⌝ }
     ensures { λ _. ⌜ now (out .exit) ≡ sets (now (out .entry)) 36 (cknOctets (now (ckn .entry))) ⌝ }
 {
-    run::put_all(out, 36, ckn);
+    base_runs::put_all(out, 36, ckn);
     let n = ckn.len();
-    run::put_zeros(out, 36 + n, ((n + 3) / 4 * 4 - n) as u16);
+    base_runs::put_zeros(out, 36 + n, ((n + 3) / 4 * 4 - n) as u16);
 }
 
 // The place after the set.

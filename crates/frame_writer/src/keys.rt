@@ -1,7 +1,6 @@
 // The SAK Use set and the Distributed SAK set.
 use crate::Sak;
 use crate::lists;
-use base_octets::run;
 use base_packed::sak::SakFlags;
 use base_packed::used::KeyFlags;
 use base_packed::used::Used;
@@ -68,6 +67,6 @@ pub(crate) fn put_sak(out: &mut [u8], at: usize, distributed: bool, k: Sak) -> u
     });
     lists::put_set_header(out, at, 4, flags, 28);
     base_octets::put_u32(out, at + 4, k.kn);
-    run::put_all(out, at + 8, &wrapped);
+    base_runs::put_all(out, at + 8, &wrapped);
     at + 32
 }

@@ -2,7 +2,6 @@
 use base_facts::Check;
 use base_mi::Mi;
 use base_mi::entry::Entries;
-use base_octets::run;
 use frame_sets::kinds::SakUse;
 ghost use mathlib.Core.Path.{_≡_};
 ghost use mathlib.Core.Bool.{cond};
@@ -102,6 +101,6 @@ pub fn write(out: &mut [u8], m: Mkpdu) -> Wrote
     let c = lists::put_list(out, b, 2, potential);
     let d = keys::put_use(out, c, m.used, usage);
     let e = keys::put_sak(out, d, m.distributed, sak);
-    run::put_zeros(out, e, 16);
+    base_runs::put_zeros(out, e, 16);
     Wrote::Octets(total)
 }

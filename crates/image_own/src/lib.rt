@@ -1,5 +1,4 @@
 // The own record of a port image, 116 octets, written and read at a place.
-use base_octets::run;
 use base_packed::bit;
 use participant::Participant;
 use participant::keys;
@@ -41,8 +40,8 @@ fn put_kept(out: &mut [u8], at: usize, p: Participant)
     let ckn = p.ckn;
     let wrapped = p.wrapped;
     base_octets::put_u32(out, at, base_facts::at_most(p.size, 32) as u32);
-    run::put_all(out, at + 4, &ckn);
-    run::put_all(out, at + 36, &wrapped);
+    base_runs::put_all(out, at + 4, &ckn);
+    base_runs::put_all(out, at + 36, &wrapped);
 }
 
 pub fn put_own(out: &mut [u8], at: u32, p: Participant)
@@ -57,7 +56,7 @@ fn ckn_at(s: &[u8], at: usize) -> [u8; 32]
     ensures { λ r. ⌜ r ≡ first32 (partOf (now (s .entry)) at 32) ⌝ }
 {
     let mut out = [0u8; 32];
-    run::put_all(&mut out, 0, run::part(s, at, 32));
+    base_runs::put_all(&mut out, 0, base_runs::part(s, at, 32));
     out
 }
 
@@ -65,7 +64,7 @@ fn wrapped_at(s: &[u8], at: usize) -> [u8; 24]
     ensures { λ r. ⌜ r ≡ first24 (partOf (now (s .entry)) at 24) ⌝ }
 {
     let mut out = [0u8; 24];
-    run::put_all(&mut out, 0, run::part(s, at, 24));
+    base_runs::put_all(&mut out, 0, base_runs::part(s, at, 24));
     out
 }
 

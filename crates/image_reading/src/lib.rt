@@ -5,6 +5,7 @@ use participant::call;
 use participant::call::Called;
 ghost use mathlib.Core.Path.{_≡_};
 ghost use Rattle.image_layout.specs.Layout.{laidOut};
+ghost use Rattle.image_rules.specs.Rules.{rules};
 ghost use Rattle.image_reading.specs.Read.{sizes, numbersGood, clean, toldBy, readOf};
 
 // An own, a peer's and a key's record have these sizes.
@@ -64,6 +65,21 @@ fn told(s: &[u8]) -> Participant
     p
 }
 
+// All rules of a well-formed image that its participant shows.
+fn hold(p: Participant) -> bool
+    ensures { λ r. ⌜ r ≡ rules p ⌝ }
+{
+    let own = p.mi;
+    let t = p.table;
+    if !image_rules_own::own_good(p) {
+        return false;
+    }
+    if !image_rules_peers::peers_good(own, p.clock, t) {
+        return false;
+    }
+    image_rules_keys::keys_good(p)
+}
+
 pub fn read(s: &[u8]) -> Called
     ensures { λ r. ⌜ r ≡ readOf (now (s .entry)) ⌝ }
 {
@@ -77,7 +93,7 @@ pub fn read(s: &[u8]) -> Called
         return call::refused(call_creation::blank(), 16);
     };
     let p = told(s);
-    let Check::Passed = base_facts::fail_if(!image_rules::hold(p)) else {
+    let Check::Passed = base_facts::fail_if(!hold(p)) else {
         return call::refused(call_creation::blank(), 16);
     };
     call::done(p)

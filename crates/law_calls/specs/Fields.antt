@@ -12,11 +12,11 @@ use Rattle.participant.specs.declared.Slot.{Slot}
 use Rattle.participant.specs.declared.Participant.{Participant}
 use Rattle.participant.specs.declared.call.Answer.the-variants.{Done}
 use Rattle.participant.specs.Record.{first24, setMi, setMn, setMark, setClock, setSent, setKn, setDistributed, setWrapped, setTable, setLatest, setOld}
-use Rattle.participant.specs.Call.{ticked}
+use Rattle.call_tick.specs.Tick.{ticked}
 use Rattle.call_creation.specs.Create.{fresh, createdOf}
 use Rattle.participant.specs.Keys.{noSlot, slotOf}
-use Rattle.call_changes.specs.Renew.{newMiOf}
-use Rattle.call_changes.specs.Report.{misreported, installed, reported}
+use Rattle.call_new_mi.specs.Renew.{newMiOf}
+use Rattle.call_report.specs.Report.{misreported, installed, reported}
 use Rattle.call_distribute.specs.Distribute.{nextAn, freshKey, distributedOf}
 
 abbrev pub TickLeaves : Type 0

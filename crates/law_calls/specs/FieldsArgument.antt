@@ -9,11 +9,12 @@ use Rattle.law_lists.specs.Laws.{by-cases}
 use Rattle.participant.specs.declared.Participant.{Participant}
 use Rattle.participant.specs.declared.call.Called.{Called}
 use Rattle.participant.specs.Record.{first24, setMi, setMn, setMark, setClock, setSent, setKn, setDistributed, setWrapped, setTable, setLatest, setOld}
-use Rattle.participant.specs.Call.{settle, fact1, agedTo, ticked}
+use Rattle.participant.specs.Call.{settle, fact1, agedTo}
+use Rattle.call_tick.specs.Tick.{ticked}
 use Rattle.call_creation.specs.Create.{badStart, fresh, emptyParticipant, createdOf}
 use Rattle.participant.specs.Keys.{noSlot, withKey}
-use Rattle.call_changes.specs.Renew.{renewed, newMiFacts, newMiOf}
-use Rattle.call_changes.specs.Report.{installed, reportFacts, reported}
+use Rattle.call_new_mi.specs.Renew.{renewed, newMiFacts, newMiOf}
+use Rattle.call_report.specs.Report.{installed, reportFacts, reported}
 use Rattle.call_distribute.specs.Distribute.{nextAn, freshKey, withFresh, distributeFacts, distributedOf}
 use Rattle.participant.specs.First.{numbered}
 use Rattle.participant.proofs.Settle.{on-done, settle-cases}

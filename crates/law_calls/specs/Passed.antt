@@ -13,8 +13,8 @@ use Rattle.table_lookup.specs.Look.{staleFor, noRoomFor}
 use Rattle.participant.specs.Call.{agedTo}
 use Rattle.participant.specs.declared.Participant.{Participant}
 use Rattle.participant.specs.First.{NoneHolds}
-use Rattle.call_questions.specs.Ask.{freshDue}
-use Rattle.call_changes.specs.Renew.{inUse, newMiFacts}
+use Rattle.call_standing.specs.Standing.{freshDue}
+use Rattle.call_new_mi.specs.Renew.{inUse, newMiFacts}
 use Rattle.call_distribute.specs.Distribute.{distributeFacts}
 use Rattle.call_judge.specs.Judge.{basicIn, frameFacts}
 use Rattle.call_receive.specs.Receive.{heldAt, tableFacts, receiveFacts}

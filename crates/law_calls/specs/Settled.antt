@@ -8,12 +8,13 @@ use Rattle.base_mi.specs.declared.Mi.{Mi}
 use Rattle.law_lists.specs.Laws.{by-cases}
 use Rattle.participant.specs.declared.Participant.{Participant}
 use Rattle.participant.specs.declared.call.Answer.the-variants.{Done}
-use Rattle.participant.specs.Call.{settle, fact1, agedTo, ticked}
+use Rattle.participant.specs.Call.{settle, fact1, agedTo}
+use Rattle.call_tick.specs.Tick.{ticked}
 use Rattle.participant.specs.Record.{first24, setLatest}
 use Rattle.call_creation.specs.Create.{badStart, fresh, emptyParticipant, createdOf}
 use Rattle.participant.specs.Keys.{withKey}
-use Rattle.call_changes.specs.Renew.{renewed, newMiFacts, newMiOf}
-use Rattle.call_changes.specs.Report.{misreported, installed, reportFacts, reported}
+use Rattle.call_new_mi.specs.Renew.{renewed, newMiFacts, newMiOf}
+use Rattle.call_report.specs.Report.{misreported, installed, reportFacts, reported}
 use Rattle.call_distribute.specs.Distribute.{withFresh, distributeFacts, distributedOf}
 use Rattle.participant.proofs.Settle.{timed-clock, timed-onward}
 

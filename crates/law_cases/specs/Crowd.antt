@@ -9,7 +9,8 @@ use Rattle.base_mi.specs.Entry.{entryAt}
 use Rattle.frame.specs.Basic.{basicFields, basicOf}
 use Rattle.frame.specs.Ours.{sameAt, fact6}
 use Rattle.frame_places.specs.Once.{holds, placesWith}
-use Rattle.frame_sets.specs.Set.{lenAt, listLen, badBody, badShape, badHead, badSet, extentOf}
+use Rattle.frame_sets.specs.Set.{lenAt, badHead, badSet}
+use Rattle.frame_rules.specs.Rules.{listLen, badBody, badShape, extentOf}
 use Rattle.frame_walk.specs.List.{entriesFrom, listAt, entriesIn}
 use Rattle.frame_walk.specs.Walk.{walkGo, walkFrom, walkOf}
 use Rattle.table_expiry.specs.Expiry.{expired}

@@ -10,7 +10,8 @@ use Rattle.base_mi.specs.Entry.{entryAt}
 use Rattle.frame.specs.Basic.{basicFields, basicOf}
 use Rattle.frame.specs.Ours.{sameAt, fact6}
 use Rattle.frame_places.specs.Once.{holds, placesWith}
-use Rattle.frame_sets.specs.Set.{lenAt, listLen, badBody, badShape, badHead, badSet, extentOf}
+use Rattle.frame_sets.specs.Set.{lenAt, badHead, badSet}
+use Rattle.frame_rules.specs.Rules.{listLen, badBody, badShape, extentOf}
 use Rattle.frame_walk.specs.List.{entriesFrom, listAt, entriesIn}
 use Rattle.frame_walk.specs.Walk.{walkGo, walkFrom, walkOf}
 use Rattle.table_expiry.specs.Expiry.{expired}
@@ -20,7 +21,7 @@ use Rattle.table.specs.Table.{emptyTable, pushed}
 use Rattle.table_counts.specs.Counts.{liveCount, liveList, potentialList}
 use Rattle.table_election.specs.Elect.{elected}
 use Rattle.frame_writer.specs.Frame.{headerOctets, fixedOctets, cknOctets, basicOctets, listSet, listOctets, bodyOctets, frameOf}
-use Rattle.call_questions.specs.Ask.{serverOf, electedSelf}
+use Rattle.call_standing.specs.Standing.{serverOf, electedSelf}
 use Rattle.participant.specs.Call.{agedTo}
 use Rattle.call_creation.specs.Create.{fresh, emptyParticipant, createdOf}
 use Rattle.participant.specs.Keys.{noSlot, ofMember}

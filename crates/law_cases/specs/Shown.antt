@@ -9,7 +9,7 @@ use Rattle.base_mi.specs.Mi.{miAt, miOctets}
 use Rattle.table.specs.Table.{emptyTable}
 use Rattle.table_counts.specs.Counts.{liveCount, potentialCount}
 use Rattle.table_election.specs.Elect.{elected}
-use Rattle.call_questions.specs.Ask.{serverOf}
+use Rattle.call_standing.specs.Standing.{serverOf}
 use Rattle.call_creation.specs.Create.{fresh, emptyParticipant, createdOf}
 use Rattle.image_layout.specs.Layout.{headOf, entryOf, entriesFrom, bodies, laidOf, kindAt, recordsAt, offsetAt, laidFrom, laidOut}
 use Rattle.image_own.specs.Own.{namedOctets, timesOctets, keptOctets, ownOctets, ownAt, ownClean}

@@ -11,7 +11,8 @@ use Rattle.law_kept.specs.Keeping.{kept-still}
 use Rattle.participant.specs.declared.Participant.{Participant}
 use Rattle.participant.specs.Record.{setTable}
 use Rattle.participant.specs.Call.{agedTo}
-use Rattle.call_questions.specs.Ask.{serverOf, electedSelf, freshDue, atClock, askedServer, askedElected, askedFresh, askedLive, askedPotential, askedLives, askedPotentials}
+use Rattle.call_questions.specs.Ask.{atClock, askedServer, askedElected, askedFresh, askedLive, askedPotential, askedLives, askedPotentials}
+use Rattle.call_standing.specs.Standing.{serverOf, electedSelf, freshDue}
 use Rattle.law_history.specs.Calls.{Creation, Call, after}
 use Rattle.law_history.specs.TableArgument.{keeps}
 

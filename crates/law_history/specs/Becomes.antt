@@ -15,7 +15,7 @@ use Rattle.table_enter.specs.Enter.{entered}
 use Rattle.law_lists.specs.Laws.{by-cases}
 use Rattle.participant.specs.Call.{agedTo}
 use Rattle.participant.specs.Record.{setLatest, setOld}
-use Rattle.call_changes.specs.Renew.{renewed}
+use Rattle.call_new_mi.specs.Renew.{renewed}
 use Rattle.call_distribute.specs.Distribute.{withFresh}
 use Rattle.participant.specs.Keys.{withKey, withoutKeys}
 use Rattle.participant.specs.declared.Participant.{Participant}

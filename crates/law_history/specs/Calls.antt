@@ -6,11 +6,11 @@ use mathlib.Core.List.{List, [], _∷_, _++_}
 use mathlib.Core.Option.{Option, none, some}
 use lib.ListN.{length}
 use Rattle.base_mi.specs.declared.Mi.{Mi}
-use Rattle.participant.specs.Call.{ticked}
+use Rattle.call_tick.specs.Tick.{ticked}
 use Rattle.call_creation.specs.Create.{createdOf}
 use Rattle.call_distribute.specs.Distribute.{distributedOf}
-use Rattle.call_changes.specs.Renew.{newMiOf}
-use Rattle.call_changes.specs.Report.{reported}
+use Rattle.call_new_mi.specs.Renew.{newMiOf}
+use Rattle.call_report.specs.Report.{reported}
 use Rattle.participant.specs.declared.Participant.{Participant}
 use Rattle.participant.specs.declared.call.Called.{Called}
 use Rattle.participant.specs.declared.call.Answer as call

@@ -10,7 +10,7 @@ use Rattle.frame_places.specs.declared.Spot.{Spot}
 use Rattle.frame_sets.specs.declared.kinds.SakHeader.{SakHeader}
 use Rattle.table_lookup.specs.Look.{heldIn, liveFor}
 use Rattle.table_election.specs.declared.Server.the-variants.{Elected}
-use Rattle.call_questions.specs.Ask.{serverOf, electedSelf}
+use Rattle.call_standing.specs.Standing.{serverOf, electedSelf}
 use Rattle.call_distribute.specs.Distribute.{nextAn, confidentialityOf}
 use Rattle.participant.specs.declared.Key.{Key}
 use Rattle.participant.specs.declared.call.Answer.the-variants.{Done}

@@ -15,12 +15,12 @@ use Rattle.table_election.specs.declared.Server.the-variants.{Nobody, Ourselves
 use Rattle.law_lists.specs.Laws.{by-cases, clash, first-of}
 use Rattle.law_kept.specs.Same.{same-eq}
 use Rattle.table_election.proofs.Least.{elected-live}
-use Rattle.call_questions.specs.Ask.{ownRank, serverOf, electedSelf, pauseOver, freshDue}
+use Rattle.call_standing.specs.Standing.{ownRank, serverOf, electedSelf, pauseOver, freshDue}
 use Rattle.participant.specs.Call.{agedTo}
 use Rattle.call_creation.specs.Create.{fresh}
 use Rattle.participant.specs.Record.{first24}
-use Rattle.call_changes.specs.Renew.{renewed}
-use Rattle.call_changes.specs.Report.{installed}
+use Rattle.call_new_mi.specs.Renew.{renewed}
+use Rattle.call_report.specs.Report.{installed}
 use Rattle.call_distribute.specs.Distribute.{confidentialityOf, freshKey, withFresh}
 use Rattle.participant.specs.Keys.{noSlot, withKey, withoutKeys}
 use Rattle.participant.specs.declared.Key.{Key}

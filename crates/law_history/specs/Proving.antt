@@ -17,7 +17,7 @@ use Rattle.table_expiry.proofs.Rules.{kept-rules}
 use Rattle.table_expiry.proofs.Aging.{whole-tidy, fresh-now, tidy-expired}
 use Rattle.law_kept.specs.Proving.{live-proved, proof-later, proved-expired, proved-own, proved-other}
 use Rattle.participant.specs.Call.{agedTo}
-use Rattle.call_changes.specs.Renew.{renewed}
+use Rattle.call_new_mi.specs.Renew.{renewed}
 use Rattle.call_distribute.specs.Distribute.{withFresh}
 use Rattle.participant.specs.Keys.{withKey}
 use Rattle.participant.specs.declared.Participant.{Participant}

@@ -11,13 +11,13 @@ use borrow.Author.Tests.{eqb-true, eqb-false, eq-eqb, not-true}
 use Rattle.base_facts.specs.Facts.{firstOf}
 use Rattle.base_octets.specs.Run.{written}
 use Rattle.law_lists.specs.Laws.{by-cases, never, clash, first-of, second-of}
-use Rattle.participant.specs.Call.{ticked}
+use Rattle.call_tick.specs.Tick.{ticked}
 use Rattle.participant.specs.declared.Participant.{Participant}
 use Rattle.participant.specs.declared.call.Answer.the-variants as onCall
 use Rattle.participant.specs.First.{NoneHolds, numbered, First}
 use Rattle.participant.proofs.Settle.{first-holds, none-holds, first-number, none-number}
-use Rattle.call_changes.specs.Renew.{newMiOf}
-use Rattle.call_changes.specs.Report.{reported}
+use Rattle.call_new_mi.specs.Renew.{newMiOf}
+use Rattle.call_report.specs.Report.{reported}
 use Rattle.call_distribute.specs.Distribute.{distributedOf}
 use Rattle.call_judge.specs.Judge.{frameFacts}
 use Rattle.call_receive.specs.Receive.{tableFacts, receiveFacts, receivedOf}

@@ -7,10 +7,11 @@ use lib.ListN.{length}
 use lib.Dec.{eqb, ltb}
 use borrow.Author.Tests.{eqb-true}
 use Rattle.base_facts.specs.Facts.{firstOf}
-use Rattle.participant.specs.Call.{fact1, agedTo, ticked}
+use Rattle.participant.specs.Call.{fact1, agedTo}
+use Rattle.call_tick.specs.Tick.{ticked}
 use Rattle.participant.specs.Record.{first24, setLatest}
-use Rattle.call_changes.specs.Renew.{renewed, newMiFacts, newMiOf}
-use Rattle.call_changes.specs.Report.{installed, reportFacts, reported}
+use Rattle.call_new_mi.specs.Renew.{renewed, newMiFacts, newMiOf}
+use Rattle.call_report.specs.Report.{installed, reportFacts, reported}
 use Rattle.call_distribute.specs.Distribute.{withFresh, distributeFacts, distributedOf}
 use Rattle.participant.specs.declared.Participant.{Participant}
 use Rattle.participant.specs.declared.call.Called.{Called}

@@ -12,7 +12,7 @@ use Rattle.table_expiry.proofs.Aging.{at-most-16, count-tidy}
 use Rattle.law_kept.specs.Apart.{absent-clash}
 use Rattle.law_kept.specs.Keeping.{kept-empty, kept-expired, kept-entered}
 use Rattle.participant.specs.Call.{agedTo}
-use Rattle.call_changes.specs.Renew.{renewed}
+use Rattle.call_new_mi.specs.Renew.{renewed}
 use Rattle.call_distribute.specs.Distribute.{withFresh}
 use Rattle.participant.specs.Keys.{withKey}
 use Rattle.participant.specs.declared.Participant.{Participant}

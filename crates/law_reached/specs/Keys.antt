@@ -10,13 +10,13 @@ use Rattle.base_octets.specs.Octets.{Octets}
 use Rattle.base_mi.specs.Mi.{miSame}
 use Rattle.base_mi.specs.declared.Mi.{Mi}
 use Rattle.base_mi.specs.Fitting.{Fitting}
-use Rattle.frame_sets.proofs.Laws.{or-false}
+use Rattle.frame_rules.proofs.Laws.{or-false}
 use Rattle.law_lists.specs.Laws.{by-cases, clash, both, first-of, second-of}
 use Rattle.law_kept.specs.Same.{same-eq, same-refl, same-sym}
 use Rattle.participant.specs.Call.{agedTo}
 use Rattle.call_creation.specs.Create.{fresh}
-use Rattle.call_changes.specs.Renew.{inUse, renewed}
-use Rattle.call_changes.specs.Report.{misreported, installed}
+use Rattle.call_new_mi.specs.Renew.{inUse, renewed}
+use Rattle.call_report.specs.Report.{misreported, installed}
 use Rattle.call_distribute.specs.Distribute.{confidentialityOf, freshKey, withFresh}
 use Rattle.participant.specs.Keys.{noSlot, slotOf, ofMember, isKey, withKey, withoutKeys}
 use Rattle.participant.specs.declared.Key.{Key}

@@ -9,12 +9,12 @@ use lib.Seq.{length-sets, sets-eq, drop-at}
 use lib.Dec.{eqb, ltb}
 use borrow.Author.Tests.{le-leb, ltb-false, ne-eqb}
 use Rattle.base_mi.specs.Fitting.{Fitting}
-use Rattle.frame_sets.proofs.Laws.{or-false}
+use Rattle.frame_rules.proofs.Laws.{or-false}
 use Rattle.law_lists.specs.Laws.{both}
 use Rattle.participant.specs.Call.{agedTo}
 use Rattle.call_creation.specs.Create.{badStart, fresh, emptyParticipant}
 use Rattle.participant.specs.Record.{first32}
-use Rattle.call_changes.specs.Renew.{renewed}
+use Rattle.call_new_mi.specs.Renew.{renewed}
 use Rattle.call_distribute.specs.Distribute.{withFresh}
 use Rattle.participant.specs.Keys.{withKey}
 use Rattle.participant.specs.declared.Participant.{Participant}

@@ -25,7 +25,7 @@ use Rattle.law_kept.specs.Entering.{entries-entered}
 use Rattle.law_kept.specs.Keeping.{every-aged, every-entered}
 use Rattle.participant.specs.Call.{agedTo}
 use Rattle.call_creation.specs.Create.{fresh}
-use Rattle.call_changes.specs.Renew.{renewed}
+use Rattle.call_new_mi.specs.Renew.{renewed}
 use Rattle.call_distribute.specs.Distribute.{withFresh}
 use Rattle.participant.specs.Keys.{withKey}
 use Rattle.participant.specs.declared.Participant.{Participant}

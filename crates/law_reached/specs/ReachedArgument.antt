@@ -8,7 +8,7 @@ use Rattle.participant.specs.declared.Participant.{Participant}
 use Rattle.participant.specs.declared.call.Answer.the-variants.{Done}
 use Rattle.participant.specs.First.{NoneHolds}
 use Rattle.image_rules.specs.Rules.{rules}
-use Rattle.image_rules.proofs.Laws.{peers-by-rule, by-record}
+use Rattle.image_rules.specs.ByRecord.{peers-by-rule, by-record}
 use Rattle.law_saved.specs.WellFormed.{WellFormed}
 use Rattle.law_history.specs.Calls.{Creation, created, Call, after}
 use Rattle.law_history.specs.Steps.{facts, becomes}

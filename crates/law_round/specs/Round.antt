@@ -21,7 +21,7 @@ use Rattle.frame.specs.Ours.{sameAt, fact6, fact7}
 use Rattle.frame.specs.declared.BasicRead.the-variants.{Read}
 use Rattle.frame_sets.specs.Kinds.{sakUseAt, sakAt}
 use Rattle.frame_places.specs.Once.{absentSpot, noPlaces, holds, placesWith}
-use Rattle.frame_sets.specs.Set.{isList, allowed, unnumbered}
+use Rattle.frame_rules.specs.Rules.{isList, allowed, unnumbered}
 use Rattle.frame_places.specs.declared.Spot.{Spot}
 use Rattle.frame_places.specs.declared.Places.{Places}
 use Rattle.frame_walk.specs.List.{entriesFrom, listAt}

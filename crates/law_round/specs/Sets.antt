@@ -25,7 +25,8 @@ use Rattle.base_packed.specs.declared.sak.SakFlags.{SakFlags}
 use Rattle.base_packed.proofs.Laws.{used-round, sak-round}
 use Rattle.frame_sets.specs.Kinds.{keyUseAt, sakUseAt, sakAt}
 use Rattle.frame_places.specs.Once.{absentSpot, spotAt, holds, placesWith}
-use Rattle.frame_sets.specs.Set.{lenAt, allowed, extentOf, unnumbered, badSet}
+use Rattle.frame_sets.specs.Set.{lenAt, badSet}
+use Rattle.frame_rules.specs.Rules.{allowed, extentOf, unnumbered}
 use Rattle.frame_places.specs.declared.Spot.{Spot}
 use Rattle.frame_places.specs.declared.Places.{Places}
 use Rattle.frame_sets.specs.declared.kinds.KeyUse.{KeyUse}

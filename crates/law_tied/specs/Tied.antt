@@ -13,7 +13,9 @@ use Rattle.frame.specs.Basic.{basicOf}
 use Rattle.frame_walk.proofs as frame_walk
 use Rattle.frame_walk.specs.Walk.{walkOf}
 use Rattle.call_creation.proofs as call_creation
-use Rattle.call_changes.proofs as call_changes
+use Rattle.call_tick.proofs as call_tick
+use Rattle.call_new_mi.proofs as call_new_mi
+use Rattle.call_report.proofs as call_report
 use Rattle.call_questions.proofs as call_questions
 use Rattle.call_questions.specs.Ask.{askedServer, askedElected, askedFresh, helloDue, askedLive, askedPotential, askedLives, askedPotentials}
 use Rattle.call_distribute.proofs as call_distribute
@@ -57,17 +59,17 @@ pub distribute : Plays call_distribute.distribute.Kinds.ps call_distribute.distr
     (λ κs a z e. (z .participant, toCall (z .answer)))
 distribute κs a z e h = ap (λ r. (r .participant, toCall (r .answer))) h
 
-pub tick : Plays call_changes.tick.tick.Kinds.ps call_changes.tick.tick.Kinds.r call_changes.tick.tick.Reads.Learnt
+pub tick : Plays call_tick.tick.Kinds.ps call_tick.tick.Kinds.r call_tick.tick.Reads.Learnt
     (λ κs (p, (time, _)). (p, ticks time))
     (λ κs a z e. (z .participant, toCall (z .answer)))
 tick κs a z e h = ap (λ r. (r .participant, toCall (r .answer))) h
 
-pub new-mi : Plays call_changes.renew.new_mi.Kinds.ps call_changes.renew.new_mi.Kinds.r call_changes.renew.new_mi.Reads.Learnt
+pub new-mi : Plays call_new_mi.new_mi.Kinds.ps call_new_mi.new_mi.Kinds.r call_new_mi.new_mi.Reads.Learnt
     (λ κs (p, (time, (m, _))). (p, renews time m))
     (λ κs a z e. (z .participant, toCall (z .answer)))
 new-mi κs a z e h = ap (λ r. (r .participant, toCall (r .answer))) h
 
-pub report : Plays call_changes.report.report.Kinds.ps call_changes.report.report.Kinds.r call_changes.report.report.Reads.Learnt
+pub report : Plays call_report.report.Kinds.ps call_report.report.Kinds.r call_report.report.Reads.Learnt
     (λ κs (p, (m, (kn, (transmit, _)))). (p, reports m kn transmit))
     (λ κs a z e. (z .participant, toCall (z .answer)))
 report κs a z e h = ap (λ r. (r .participant, toCall (r .answer))) h

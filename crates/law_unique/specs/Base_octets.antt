@@ -51,21 +51,3 @@ base-octets·put-u64·asks-nothing κs a w = refl
 
 pub base-octets·put-u64 : OneSeen base_octets.put_u64.Kinds.ps base_octets.put_u64.Kinds.r base_octets.put_u64.Reads.Learnt (λ κs z e. now (e .0))
 base-octets·put-u64 κs a z z′ e e′ h h′ = same h h′
-
-pub base-octets·run·put-all·asks-nothing : AsksNothing base_octets.run.put_all.signature base_octets.run.put_all.Reads.requires
-base-octets·run·put-all·asks-nothing κs a w = refl
-
-pub base-octets·run·put-all : OneSeen base_octets.run.put_all.Kinds.ps base_octets.run.put_all.Kinds.r base_octets.run.put_all.Reads.Learnt (λ κs z e. now (e .0))
-base-octets·run·put-all κs a z z′ e e′ h h′ = same h h′
-
-pub base-octets·run·put-zeros·asks-nothing : AsksNothing base_octets.run.put_zeros.signature base_octets.run.put_zeros.Reads.requires
-base-octets·run·put-zeros·asks-nothing κs a w = refl
-
-pub base-octets·run·put-zeros : OneSeen base_octets.run.put_zeros.Kinds.ps base_octets.run.put_zeros.Kinds.r base_octets.run.put_zeros.Reads.Learnt (λ κs z e. now (e .0))
-base-octets·run·put-zeros κs a z z′ e e′ h h′ = same h h′
-
-pub base-octets·run·part·asks-nothing : AsksNothing base_octets.run.part.signature base_octets.run.part.Reads.requires
-base-octets·run·part·asks-nothing κs a w = refl
-
-pub base-octets·run·part : OneSeen base_octets.run.part.Kinds.ps base_octets.run.part.Kinds.r base_octets.run.part.Reads.Learnt (λ κs z e. now z)
-base-octets·run·part κs a z z′ e e′ h h′ = same h h′

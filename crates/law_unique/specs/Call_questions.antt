@@ -50,21 +50,3 @@ call-questions·potential-count·asks-nothing κs a w = refl
 
 pub call-questions·potential-count : OneAnswer call_questions.potential_count.Kinds.ps call_questions.potential_count.Kinds.r call_questions.potential_count.Reads.Learnt
 call-questions·potential-count κs a z z′ e e′ h h′ = same h h′
-
-pub call-questions·standing·server·asks-nothing : AsksNothing call_questions.standing.server.signature call_questions.standing.server.Reads.requires
-call-questions·standing·server·asks-nothing κs a w = refl
-
-pub call-questions·standing·server : OneAnswer call_questions.standing.server.Kinds.ps call_questions.standing.server.Kinds.r call_questions.standing.server.Reads.Learnt
-call-questions·standing·server κs a z z′ e e′ h h′ = same h h′
-
-pub call-questions·standing·elected-self·asks-nothing : AsksNothing call_questions.standing.elected_self.signature call_questions.standing.elected_self.Reads.requires
-call-questions·standing·elected-self·asks-nothing κs a w = refl
-
-pub call-questions·standing·elected-self : OneAnswer call_questions.standing.elected_self.Kinds.ps call_questions.standing.elected_self.Kinds.r call_questions.standing.elected_self.Reads.Learnt
-call-questions·standing·elected-self κs a z z′ e e′ h h′ = same h h′
-
-pub call-questions·standing·fresh-due·asks-nothing : AsksNothing call_questions.standing.fresh_due.signature call_questions.standing.fresh_due.Reads.requires
-call-questions·standing·fresh-due·asks-nothing κs a w = refl
-
-pub call-questions·standing·fresh-due : OneAnswer call_questions.standing.fresh_due.Kinds.ps call_questions.standing.fresh_due.Kinds.r call_questions.standing.fresh_due.Reads.Learnt
-call-questions·standing·fresh-due κs a z z′ e e′ h h′ = same h h′

@@ -21,20 +21,8 @@ frame-sets·set-head·asks-nothing κs a w = refl
 pub frame-sets·set-head : OneAnswer frame_sets.set_head.Kinds.ps frame_sets.set_head.Kinds.r frame_sets.set_head.Reads.Learnt
 frame-sets·set-head κs a z z′ e e′ h h′ = same h h′
 
-pub frame-sets·list-len·asks-nothing : AsksNothing frame_sets.list_len.signature frame_sets.list_len.Reads.requires
-frame-sets·list-len·asks-nothing κs a w = refl
-
-pub frame-sets·list-len : OneAnswer frame_sets.list_len.Kinds.ps frame_sets.list_len.Kinds.r frame_sets.list_len.Reads.Learnt
-frame-sets·list-len κs a z z′ e e′ h h′ = same h h′
-
 pub frame-sets·set-at·asks-nothing : AsksNothing frame_sets.set_at.signature frame_sets.set_at.Reads.requires
 frame-sets·set-at·asks-nothing κs a w = refl
 
 pub frame-sets·set-at : OneAnswer frame_sets.set_at.Kinds.ps frame_sets.set_at.Kinds.r frame_sets.set_at.Reads.Learnt
 frame-sets·set-at κs a z z′ e e′ h h′ = same h h′
-
-pub frame-sets·extent·asks-nothing : AsksNothing frame_sets.extent.signature frame_sets.extent.Reads.requires
-frame-sets·extent·asks-nothing κs a w = refl
-
-pub frame-sets·extent : OneAnswer frame_sets.extent.Kinds.ps frame_sets.extent.Kinds.r frame_sets.extent.Reads.Learnt
-frame-sets·extent κs a z z′ e e′ h h′ = same h h′

@@ -2,10 +2,12 @@ pub mod Law
 pub mod Walked
 pub mod Base_facts
 pub mod Base_octets
+pub mod Base_runs
 pub mod Base_mi
 pub mod Base_packed
 pub mod Frame
 pub mod Frame_places
+pub mod Frame_rules
 pub mod Frame_sets
 pub mod Frame_walk
 pub mod Frame_reader
@@ -18,8 +20,11 @@ pub mod Table_election
 pub mod Frame_writer
 pub mod Participant
 pub mod Call_creation
+pub mod Call_standing
 pub mod Call_questions
-pub mod Call_changes
+pub mod Call_tick
+pub mod Call_new_mi
+pub mod Call_report
 pub mod Call_distribute
 pub mod Call_judge
 pub mod Call_hearing
@@ -29,7 +34,9 @@ pub mod Image_layout
 pub mod Image_own
 pub mod Image_peer
 pub mod Image_key
-pub mod Image_rules
+pub mod Image_rules_own
+pub mod Image_rules_peers
+pub mod Image_rules_keys
 pub mod Image
 pub mod Image_reading
 pub mod Page

@@ -14,7 +14,8 @@ use Rattle.frame.specs.Basic.{basicFields}
 use Rattle.frame.specs.Ours.{sameAt, fact6}
 use Rattle.frame_places.specs.Once.{holds, placesWith}
 use Rattle.frame_sets.specs.Kinds.{sakAt, sakIn}
-use Rattle.frame_sets.specs.Set.{lenAt, listLen, badBody, badShape, badHead, badSet, extentOf}
+use Rattle.frame_sets.specs.Set.{lenAt, badHead, badSet}
+use Rattle.frame_rules.specs.Rules.{listLen, badBody, badShape, extentOf}
 use Rattle.frame_walk.specs.List.{entriesFrom, listAt, entriesIn}
 use Rattle.frame_walk.specs.Walk.{walkGo, walkFrom, walkOf}
 use Rattle.table_expiry.specs.Expiry.{expired}
@@ -26,10 +27,11 @@ use Rattle.table_election.specs.Elect.{elected}
 use Rattle.table_election.specs.declared.Server.{Server}
 use Rattle.table_election.specs.declared.Server.the-variants.{Ourselves, Elected}
 use Rattle.frame_writer.specs.Frame.{headerOctets, fixedOctets, cknOctets, basicOctets, listSet, listOctets, bodyOctets, frameOf}
-use Rattle.call_questions.specs.Ask.{serverOf, electedSelf, pauseOver, freshDue}
-use Rattle.participant.specs.Call.{agedTo, ticked}
+use Rattle.call_standing.specs.Standing.{serverOf, electedSelf, pauseOver, freshDue}
+use Rattle.participant.specs.Call.{agedTo}
+use Rattle.call_tick.specs.Tick.{ticked}
 use Rattle.call_creation.specs.Create.{fresh, emptyParticipant, createdOf}
-use Rattle.call_changes.specs.Renew.{inUse, renewed, newMiOf}
+use Rattle.call_new_mi.specs.Renew.{inUse, renewed, newMiOf}
 use Rattle.call_distribute.specs.Distribute.{nextAn, confidentialityOf, freshKey, withFresh, distributedOf}
 use Rattle.participant.specs.Keys.{noSlot, slotOf, ofMember, isKey, withKey, withoutKeys}
 use Rattle.participant.specs.declared.Slot.{Slot}

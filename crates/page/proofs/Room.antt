@@ -14,7 +14,7 @@ use Rattle.table_counts.specs.Counts.{liveCount, potentialCount}
 use Rattle.table_expiry.proofs.Aging.{at-most-16}
 use Rattle.table_counts.proofs.Listing.{live-potential}
 use Rattle.participant.specs.declared.Participant.{Participant}
-use Rattle.call_questions.specs.Ask.{serverOf}
+use Rattle.call_standing.specs.Standing.{serverOf}
 use Rattle.page.specs.Status.{keyText, statusText}
 use Rattle.page.proofs.Laws.{decimal-below}
 use Rattle.page.proofs.Stores.{server-le}

@@ -9,7 +9,7 @@ use Rattle.base_octets.proofs.Stores.{sets-on}
 use Rattle.table_election.specs.declared.Server.{Server}
 use Rattle.table_election.specs.declared.Server.the-variants.{Nobody, Ourselves, Elected}
 use Rattle.table_counts.specs.Counts.{liveCount, potentialCount}
-use Rattle.call_questions.specs.Ask.{serverOf}
+use Rattle.call_standing.specs.Standing.{serverOf}
 use Rattle.participant.specs.declared.Participant.{Participant}
 use Rattle.page.specs.Text.{ascii, decimalOf}
 use Rattle.page.specs.Status.{serverText, keyText, statusText}

@@ -6,7 +6,7 @@ use mathlib.Core.List.{List, _++_}
 use Rattle.table_election.specs.declared.Server.{Server}
 use Rattle.table_election.specs.declared.Server.the-variants.{Nobody, Ourselves, Elected}
 use Rattle.table_counts.specs.Counts.{liveCount, potentialCount}
-use Rattle.call_questions.specs.Ask.{serverOf}
+use Rattle.call_standing.specs.Standing.{serverOf}
 use Rattle.participant.specs.declared.Participant.{Participant}
 use Rattle.page.specs.Text.{ascii, decimalOf, hexOf}
 

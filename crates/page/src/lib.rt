@@ -1,7 +1,6 @@
 // What the port page says of a participant as it stands, without the line's end. Beside it the line itself.
 use crate::line::Line;
 use crate::line::ROOM;
-use call_questions::standing;
 use participant::Participant;
 use table_election::Server;
 ghost use mathlib.Core.Path.{_≡_};
@@ -47,7 +46,7 @@ pub fn status(p: Participant) -> Line
     let n = line::put_number(&mut out, n, b" live ", live);
     let n = line::put_number(&mut out, n, b" potential ", potential);
     let n = line::put_words(&mut out, n, b" server ");
-    let n = put_server(&mut out, n, standing::server(p));
+    let n = put_server(&mut out, n, call_standing::server(p));
     let n = line::put_words(&mut out, n, b" key ");
     let len = put_key(&mut out, n, latest.held, key.kn);
     Line { text: out, len }

@@ -1,6 +1,5 @@
 // A line of text by value, made part by part.
 use base_mi::Mi;
-use base_octets::run;
 ghost use mathlib.Core.Path.{_≡_};
 ghost use Prim.Native.Nat.{_+_, _<_, _≤_, _^_};
 ghost use mathlib.Core.List.{_++_};
@@ -23,7 +22,7 @@ pub(crate) fn put_words(out: &mut [u8], at: usize, s: &[u8]) -> usize
     requires { ⌜ at + length (now s) < 2 ^ 63 ⌝ }
     ensures { λ r. ⌜ (r ≡ at + length (now (s .entry))) × (now (out .exit) ≡ sets (now (out .entry)) at (now (s .entry))) ⌝ }
 {
-    run::put_all(out, at, s);
+    base_runs::put_all(out, at, s);
     at + s.len()
 }
 

@@ -12,7 +12,7 @@ use Rattle.participant.specs.declared.Participant.{Participant}
 use Rattle.participant.specs.Record.{setMn, setKn, setTable, setLatest}
 use Rattle.participant.specs.Keys.{noSlot}
 use Rattle.call_creation.specs.Create.{fresh}
-use Rattle.call_questions.specs.Ask.{serverOf}
+use Rattle.call_standing.specs.Standing.{serverOf}
 use Rattle.page.specs.Text.{ascii, decimalOf, hexOf}
 use Rattle.page.specs.Status.{serverText, keyText, statusText}
 

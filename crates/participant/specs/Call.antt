@@ -31,7 +31,3 @@ fact1 p time = ltb time (p .clock)
 -- "Each timed call first expires"; "An accepted call sets the clock."
 unfoldable pub agedTo : Participant → ℕ → Participant
 agedTo p time = setClock time (setTable (expired time (p .table)) p)
-
--- Tick: 1.
-unfoldable pub ticked : Participant → ℕ → Called
-ticked p time = settle p ((1, fact1 p time) ∷ []) (agedTo p time)

@@ -7,10 +7,6 @@ use crate::state;
 use crate::state::Played;
 use crate::state::State;
 use crate::status;
-use base_octets::run;
-use call_changes::renew;
-use call_changes::report;
-use call_changes::tick;
 use call_receive::Answer as Heard;
 use call_send::Answer as Sent;
 use frame_writer::Wrote;
@@ -21,7 +17,7 @@ ghost use Prim.Native.Nat.{_≤_};
 
 // The payload from a place on.
 fn rest(d: &[u8], at: usize) -> &[u8] {
-    run::part(d, at, base_facts::less(d.len(), at))
+    base_runs::part(d, at, base_facts::less(d.len(), at))
 }
 
 // The room at a place; over 2,048 counts as 2,048.
@@ -144,7 +140,7 @@ fn hand_out(p: Participant, d: &[u8], out: &mut [u8]) -> Played {
 
 fn install(p: Participant, d: &[u8], out: &mut [u8]) -> Played {
     let m = base_mi::mi_at(d, 1);
-    let r = report::report(
+    let r = call_report::report(
         p,
         m,
         base_octets::u32_at(d, 13),
@@ -155,7 +151,7 @@ fn install(p: Participant, d: &[u8], out: &mut [u8]) -> Played {
 
 fn rename(p: Participant, d: &[u8], out: &mut [u8]) -> Played {
     let m = base_mi::mi_at(d, 8);
-    let r = renew::new_mi(p, base_octets::u64_at(d, 0), m);
+    let r = call_new_mi::new_mi(p, base_octets::u64_at(d, 0), m);
     called(r, out, b"renewed\n")
 }
 
@@ -180,7 +176,11 @@ fn act(p: Participant, op: u8, d: &[u8], out: &mut [u8]) -> Played {
         2 => hear(p, d, out),
         3 => say(p, d, out),
         4 => hand_out(p, d, out),
-        5 => called(tick::tick(p, base_octets::u64_at(d, 0)), out, b"ticked\n"),
+        5 => called(
+            call_tick::tick(p, base_octets::u64_at(d, 0)),
+            out,
+            b"ticked\n",
+        ),
         6 => rename(p, d, out),
         7 => install(p, d, out),
         8 => {

@@ -87,7 +87,7 @@ fn word(out: &mut [u8], at: usize, frame: &[u8], s: Set) -> usize {
             if frame.len() < place {
                 return n;
             }
-            entries(out, n, frame, place + 4, frame_sets::list_len(t, len))
+            entries(out, n, frame, place + 4, frame_rules::list_len(t, len))
         }
     }
 }
@@ -112,7 +112,7 @@ pub(crate) fn line(out: &mut [u8], frame: &[u8]) -> usize {
         let t = kinds::type_of(k);
         n = word(out, n, frame, s);
         seen = frame_places::with(seen, t, at, s.len);
-        at += frame_sets::extent(t, s.len);
+        at += frame_rules::extent(t, s.len);
     }
     print::words(out, n, b" end\n")
 }

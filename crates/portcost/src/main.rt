@@ -1,5 +1,4 @@
 // What a call costs: makes a participant by the first calls of a script, plays its last call n times, and prints a check line.
-use base_octets::run;
 use libc::STDIN_FILENO;
 use libc::STDOUT_FILENO;
 
@@ -21,7 +20,7 @@ fn cost(script: &[u8]) {
     while at < script.len() {
         let op = base_octets::octet(script, at);
         let n = base_octets::u16_at(script, at + 1) as usize;
-        let d = run::part(script, at + 3, n);
+        let d = base_runs::part(script, at + 3, n);
         if op == 12 {
             say(play::often(p, d));
             return;

@@ -1,6 +1,5 @@
 // One call, played again and again on the same participant. What comes back goes into a sum, so that no play is idle.
 use crate::setup;
-use base_octets::run;
 use call_receive::Answer as Heard;
 use call_receive::Received;
 use call_send::Answer as Sending;
@@ -85,7 +84,7 @@ fn read_often(p: Participant, n: u32) -> u64 {
     let mut sum: u64 = 0;
     let mut i: u32 = 0;
     while i < n {
-        let r = image_reading::read(run::part(&out, 0, len));
+        let r = image_reading::read(base_runs::part(&out, 0, len));
         sum = num::wrapping_add_u64(sum, of_read(r));
         i += 1;
     }

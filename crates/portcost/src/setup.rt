@@ -1,6 +1,5 @@
 // The calls that make the participant. Each payload is that of a call script's record; a send has room enough.
 use base_mi::Mi;
-use base_octets::run;
 use participant::Participant;
 
 pub(crate) fn blank() -> Participant {
@@ -10,7 +9,7 @@ pub(crate) fn blank() -> Participant {
 
 // The payload from `at` on.
 pub(crate) fn rest(d: &[u8], at: usize) -> &[u8] {
-    run::part(d, at, base_facts::less(d.len(), at))
+    base_runs::part(d, at, base_facts::less(d.len(), at))
 }
 
 fn make(d: &[u8]) -> Participant {

@@ -1,5 +1,6 @@
 use mathlib.Core.Path.{ap, _∙_}
-use Rattle.call_questions.specs.Ask.{electedSelf, askedElected}
+use Rattle.call_questions.specs.Ask.{askedElected}
+use Rattle.call_standing.specs.Standing.{electedSelf}
 use borrow.Author.Needs.{needs}
 use Rattle.call_questions.proofs.elected_self.Statement.{statement}
 use Rattle.call_questions.proofs.elected_self.Tie as tie

@@ -1,5 +1,6 @@
 use mathlib.Core.Path.{ap, _∙_}
-use Rattle.call_questions.specs.Ask.{freshDue, askedFresh}
+use Rattle.call_questions.specs.Ask.{askedFresh}
+use Rattle.call_standing.specs.Standing.{freshDue}
 use borrow.Author.Needs.{needs}
 use Rattle.call_questions.proofs.fresh_due.Statement.{statement}
 use Rattle.call_questions.proofs.fresh_due.Tie as tie

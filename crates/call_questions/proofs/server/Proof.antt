@@ -1,5 +1,6 @@
 use mathlib.Core.Path.{ap, _∙_}
-use Rattle.call_questions.specs.Ask.{serverOf, askedServer}
+use Rattle.call_questions.specs.Ask.{askedServer}
+use Rattle.call_standing.specs.Standing.{serverOf}
 use borrow.Author.Needs.{needs}
 use Rattle.call_questions.proofs.server.Statement.{statement}
 use Rattle.call_questions.proofs.server.Tie as tie

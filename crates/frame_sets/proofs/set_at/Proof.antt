@@ -1,7 +1,7 @@
 use mathlib.Core.Path.{sym, ap, _∙_}
 use Prim.Native.Nat.{ℕ, _%_}
 use denote.Ref.{now}
-use Rattle.frame_sets.specs.Set.{listLen}
+use Rattle.frame_rules.specs.Rules.{listLen}
 use Rattle.frame_sets.proofs.Laws as laws
 use borrow.Author.Needs.{needs}
 use Rattle.frame_sets.proofs.set_at.Statement.{statement}

@@ -1,6 +1,8 @@
 use mathlib.Core.Path.{sym, _∙_}
 use borrow.Author.Tests.{lt-ltb, le-ltb}
-use Rattle.frame_sets.specs.Set.{badShape, headOf, setFields}
+use Rattle.frame_sets.specs.Set.{headOf, setFields}
+use Rattle.frame_rules.specs.Rules.{badShape}
+use Rattle.frame_rules.proofs.Laws.{shape-no-room}
 use Rattle.frame_sets.proofs.Laws as laws
 use Rattle.base_facts.proofs.Laws.{check-failed, check-passed}
 use borrow.Author.Needs.{needs}
@@ -16,7 +18,7 @@ less-requires c κs = search needs
 
 returns-2 : tie.Need-returns-2
 unfolding headOf setFields
-returns-2 c = rw (laws.head-shape _ _ _ _, le-ltb _ _ (c .before .before .if1 .left), ← c .before .less .ensures, laws.shape-no-room _ _ _ _ _ (c .if2 .taken))
+returns-2 c = rw (laws.head-shape _ _ _ _, le-ltb _ _ (c .before .before .if1 .left), ← c .before .less .ensures, shape-no-room _ _ _ _ _ (c .if2 .taken))
 
 octet-requires : tie.Need-octet-requires
 octet-requires c κs = search needs

@@ -4,7 +4,9 @@ use mathlib.Core.Bool.{false}
 use lib.ListN.{length, getD}
 use denote.Ref.{now}
 use Rattle.frame_places.specs.Once.{placesWith}
-use Rattle.frame_sets.specs.Set.{lenAt, listLen, badHead, extentOf}
+use Rattle.frame_sets.specs.Set.{lenAt, badHead}
+use Rattle.frame_rules.specs.Rules.{listLen, extentOf}
+use Rattle.frame_rules.proofs.Laws as extents
 use Rattle.frame_sets.proofs.Laws as rules
 use Rattle.frame_walk.specs.Walk.{nextAt, placesAfter, walkFrom, walkOf}
 use Rattle.frame_walk.proofs.Laws as laws
@@ -82,13 +84,13 @@ add-at : tie.Need-add-at Inv-loop μ-loop Inv-sets μ-sets
 add-at c = let a = c .before .before .before .before .before .before .before .before .before .before .before .before .before .before .args in
     let k = known (c .before .before .before .before .before) in
     let few = rules.len-lt (now (a .frame)) (c .before .before .before .before .before .before .before .before .before .before .before .sets .at) (c .before .before .before .before .before .before .before .before .before .before .before .before .before .shared-slice-known .given) in
-    let up = rules.extent-most (c .before .before .before .before .before .type-of .result) (c .before .before .before .before .before .before .before .read .given .0 .0 .len) in
+    let up = extents.extent-most (c .before .before .before .before .before .type-of .result) (c .before .before .before .before .before .before .before .read .given .0 .0 .len) in
     let short : length (now (a .frame)) < 2 ^ 63 = omega (arith, c .before .before .before .before .before .before .before .before .before .before .before .before .before .before .good .0 .1) in
     let fits : c .before .before .before .before .before .before .before .before .before .before .before .sets .at + c .extent .result < 2 ^ 64 = omega (arith, c .extent .ensures, k .1, k .2, k .3) in
     record { fits = fits }
 
 sets-less : tie.Need-sets-less Inv-loop μ-loop Inv-sets μ-sets
-sets-less c = let up = rules.extent-least (c .before .before .before .before .before .type-of .result) (c .before .before .before .before .before .before .before .read .given .0 .0 .len) in omega (arith, c .extent .ensures)
+sets-less c = let up = extents.extent-least (c .before .before .before .before .before .type-of .result) (c .before .before .before .before .before .before .before .read .given .0 .0 .len) in omega (arith, c .extent .ensures)
 
 sets-again : tie.Need-sets-again Inv-loop μ-loop Inv-sets μ-sets
 sets-again c = let a = c .before .before .before .before .before .before .before .before .before .before .before .before .before .before .args in

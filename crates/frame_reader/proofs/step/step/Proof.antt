@@ -1,6 +1,7 @@
 use Rattle.frame_reader.proofs.Laws as laws
+use Rattle.frame_rules.proofs.Laws as extents
 use Rattle.frame_sets.proofs.Laws as rules
-use Rattle.frame_sets.specs.Set.{extentOf}
+use Rattle.frame_rules.specs.Rules.{extentOf}
 use Rattle.frame_places.specs.Once.{placesWith}
 use denote.Ref.{now}
 use lib.ListN.{length}
@@ -41,7 +42,7 @@ add-t16 c = let a = c .before .before .before .before .before .before .before .b
     let f = rules.set-fields s (p .at) v (g .1) in
     let r = rules.head-room s (p .at) (p .stop) (p .seen) (rules.good-head s (p .at) (p .stop) (p .seen) (g .0)) in
     let few = rules.len-lt s (p .at) (c .before .before .before .before .before .before .before .before .before .before .shared-slice-known .given) in
-    let up = rules.extent-most (c .before .type-of .result) (v .len) in
+    let up = extents.extent-most (c .before .type-of .result) (v .len) in
     let short : length s < 2 ^ 63 = omega (arith, c .before .before .before .before .before .before .before .before .before .before .before .good .0 .1) in
     let fits : p .at + c .extent .result < 2 ^ 64 = omega (arith, c .extent .ensures, r .0, r .1, f .1) in
     record { fits = fits }

@@ -2,6 +2,7 @@ use Prim.Native.Nat.{_+_, _-_, _<_, _^_}
 use mathlib.Core.Path.{_≡_, sym, _∙_}
 use lib.ListN.{length}
 use denote.Ref.{now}
+use Rattle.frame_rules.proofs.Laws as extents
 use Rattle.frame_sets.proofs.Laws as rules
 use borrow.Author.Needs.{needs}
 use native.Mathlib.Omega.{arith}
@@ -96,13 +97,13 @@ add-at c = let a = c .before .before .before .before .before .before .before .be
     let r = rules.head-room s (l .at) stop (l .seen) (rules.good-head s (l .at) stop (l .seen) (g .0)) in
     let w = rules.set-fields s (l .at) v (g .1) in
     let few = rules.len-lt s (l .at) (c .before .before .before .before .before .before .before .before .before .before .before .before .before .before .before .before .before .before .before .before .before .before .before .shared-slice-known .given) in
-    let up = rules.extent-most (c .before .before .before .before .before .before .type-of .result) (v .len) in
+    let up = extents.extent-most (c .before .before .before .before .before .before .type-of .result) (v .len) in
     let short : length s < 2 ^ 63 = omega (arith, c .before .before .before .before .before .before .before .before .before .before .before .before .before .before .before .before .before .before .before .before .before .before .before .before .before .good .1 .0 .1) in
     let fits : l .at + c .extent .result < 2 ^ 64 = omega (arith, c .extent .ensures, r .0, r .1, w .1) in
     record { fits = fits }
 
 loop-less : tie.Need-loop-less Inv-loop μ-loop
-loop-less c = let up = rules.extent-least (c .before .before .before .before .before .before .type-of .result) (c .before .before .before .before .before .before .before .before .s .given .0 .0 .len) in omega (arith, c .extent .ensures)
+loop-less c = let up = extents.extent-least (c .before .before .before .before .before .before .type-of .result) (c .before .before .before .before .before .before .before .before .s .given .0 .0 .len) in omega (arith, c .extent .ensures)
 
 loop-again : tie.Need-loop-again Inv-loop μ-loop
 loop-again c = search needs

@@ -1,2 +1,0 @@
-pub mod Renew
-pub mod Report

@@ -24,9 +24,10 @@ use Rattle.participant.specs.declared.Participant.{Participant}
 use Rattle.call_hearing.specs.Proof.{provesIn}
 use Rattle.call_judge.specs.Judge.{judgedOf}
 use Rattle.call_hearing.specs.Keys.{keyedOf}
-use Rattle.call_receive.specs.Receive.{heardOf, admitted, heldAt, tableFacts, refusedOf, acceptedOf, updatedBy, acceptedBy, settledBy, receivedOf}
+use Rattle.call_receive.specs.Receive.{tableFacts, receivedOf}
+use Rattle.call_accept.specs.Accept.{heardOf, admitted, heldAt, refusedOf, acceptedOf, updatedBy, acceptedBy, settledBy}
 use Rattle.call_judge.specs.declared.Judged.the-variants as judged
-use Rattle.call_receive.specs.declared.Answer.the-variants.{Accepted}
+use Rattle.call_accept.specs.declared.Answer.the-variants.{Accepted}
 use Rattle.call_receive.proofs.Laws.{judged-good}
 
 -- facts 11 and 12 are left where the frame is good and its sender another than we

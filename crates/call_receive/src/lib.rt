@@ -1,32 +1,15 @@
-// Receiving a frame: what an accepted one makes of the participant, and refusals 1 to 12.
+// Receiving a frame: refusals 1 to 12, and else what an accepted one makes of the participant.
 use base_facts::Check;
-use base_mi::Mi;
-use call_hearing::keys;
+use call_accept::Answer;
+use call_accept::Received;
 use call_hearing::proof;
 use call_judge::Judged;
-use frame::Basic;
-use frame_places::Spot;
 use participant::Participant;
 use table::ROOM;
 use table::Table;
-use table_enter::Heard;
 ghost use mathlib.Core.Path.{_≡_};
 ghost use Rattle.participant.specs.Record.{setClock, setMark, setTable};
-ghost use Rattle.call_hearing.specs.Keys.{keyedOf};
-ghost use Rattle.call_receive.specs.Receive.{refusalOf, heardOf, refusedOf, acceptedOf, receivedOf};
-
-mod late;
-
-// The wrapped key's place and length, 0 and 0 if no key was entered.
-pub enum Answer {
-    Accepted(usize, usize),
-    Refused(u8),
-}
-
-pub struct Received {
-    pub participant: Participant,
-    pub answer: Answer,
-}
+ghost use Rattle.call_receive.specs.Receive.{refusalOf, receivedOf};
 
 fn refusal(r: Judged) -> u8
     ensures { λ n. ⌜ n ≡ refusalOf r ⌝ }
@@ -34,44 +17,6 @@ fn refusal(r: Judged) -> u8
     match r {
         Judged::Refused(n) => n,
         Judged::Good(_, _) => 0,
-    }
-}
-
-pub(crate) fn refused(p: Participant, n: u8) -> Received
-    ensures { λ r. ⌜ r ≡ refusedOf p n ⌝ }
-{
-    let answer = Answer::Refused(n);
-    Received {
-        participant: p,
-        answer,
-    }
-}
-
-pub(crate) fn heard_of(b: Basic) -> Heard
-    ensures { λ r. ⌜ r ≡ heardOf b ⌝ }
-{
-    let mi = b.mi;
-    Heard {
-        mi,
-        mn: b.mn,
-        sci: b.sci,
-        priority: b.priority,
-        capability: b.capability,
-        server: b.server,
-        desired: b.desired,
-    }
-}
-
-// The wrapped key, if the frame has one that is taken.
-pub(crate) fn accepted(q: Participant, frame: &[u8], m: Mi, sak: Spot) -> Received
-    ensures { λ r. ⌜ r ≡ acceptedOf (keyedOf q (now (frame .entry)) m sak) ⌝ }
-{
-    let k = keys::take_sak(q, frame, m, sak);
-    let s = k.participant;
-    let answer = Answer::Accepted(k.place, k.len);
-    Received {
-        participant: s,
-        answer,
     }
 }
 
@@ -105,19 +50,19 @@ fn with_table(p: Participant, table: Table, clock: u64, mark: bool) -> Participa
     }
 }
 
-// The table is copied once, gone through once and changed in one place; one in which something expires is left to `late`.
+// The table is copied once, gone through once and changed in one place; one in which something expires is left to `call_accept::late`.
 // What is passed on whole (`aside`, `s`) is a copy that only that way has: the other ways then need none (docs/COST.md).
 pub fn receive(p: Participant, time: u64, verdict: bool, frame: &[u8]) -> Received
     ensures { λ r. ⌜ r ≡ receivedOf p time verdict (now (frame .entry)) ⌝ }
 {
     let j = call_judge::judge(p, time, verdict, frame);
     let Judged::Good(b, w) = j else {
-        return refused(p, refusal(j));
+        return call_accept::refused(p, refusal(j));
     };
     let own = p.mi;
     let m = b.mi;
     let Check::Passed = base_facts::fail_if(base_mi::same_mi(own, m)) else {
-        return refused(p, 10);
+        return call_accept::refused(p, 10);
     };
     let mut t = p.table;
     let n = base_facts::at_most(t.count, ROOM);
@@ -128,7 +73,7 @@ pub fn receive(p: Participant, time: u64, verdict: bool, frame: &[u8]) -> Receiv
         let e = t.peers[i];
         if !table_expiry::still_from(e, from) {
             let aside = p;
-            let r = late::late(aside, time, frame, b, w);
+            let r = call_accept::late(aside, time, frame, b, w);
             return r;
         }
         at = table_lookup::first(at, n, i, m, e);
@@ -138,21 +83,21 @@ pub fn receive(p: Participant, time: u64, verdict: bool, frame: &[u8]) -> Receiv
     let old = t.peers[k];
     let held = table_lookup::found(at, n, old);
     let Check::Passed = base_facts::fail_if(table_lookup::stale(held, b.mn)) else {
-        return refused(p, 11);
+        return call_accept::refused(p, 11);
     };
     let Check::Passed = base_facts::fail_if(table_lookup::no_room(held, t)) else {
-        return refused(p, 12);
+        return call_accept::refused(p, 12);
     };
     let proves = proof::proves(frame, w, own, p.mn);
     let to = table_enter::place(held, n);
-    t.peers[to] = table_enter::anew(held, heard_of(b), proves, time);
+    t.peers[to] = table_enter::anew(held, call_accept::heard_of(b), proves, time);
     t.count = table_enter::grown(held, n);
     let mark = base_facts::either(p.mark, table_lookup::becomes_live(held, proves));
     let q = with_table(p, t, time, mark);
     let sak = w.sak;
     if sak.present {
         let s = q;
-        let r = accepted(s, frame, m, sak);
+        let r = call_accept::accepted(s, frame, m, sak);
         return r;
     }
     let answer = Answer::Accepted(0, 0);

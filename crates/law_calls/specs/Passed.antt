@@ -17,7 +17,8 @@ use Rattle.call_standing.specs.Standing.{freshDue}
 use Rattle.call_new_mi.specs.Renew.{inUse, newMiFacts}
 use Rattle.call_distribute.specs.Distribute.{distributeFacts}
 use Rattle.call_judge.specs.Judge.{basicIn, frameFacts}
-use Rattle.call_receive.specs.Receive.{heldAt, tableFacts, receiveFacts}
+use Rattle.call_receive.specs.Receive.{tableFacts, receiveFacts}
+use Rattle.call_accept.specs.Accept.{heldAt}
 use Rattle.call_send.specs.Send.{frameAt, sendFacts}
 
 -- 1, and what is judged on the table: 10, 11, 12

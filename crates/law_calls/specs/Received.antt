@@ -8,7 +8,8 @@ use Rattle.base_facts.specs.Facts.{firstOf}
 use Rattle.participant.specs.declared.Participant.{Participant}
 use Rattle.participant.specs.First.{First, NoneHolds}
 use Rattle.call_judge.specs.Judge.{basicIn, walkIn, placesIn}
-use Rattle.call_receive.specs.Receive.{receiveFacts, refusedOf, acceptedOf, acceptedBy, receivedOf}
+use Rattle.call_receive.specs.Receive.{receiveFacts, receivedOf}
+use Rattle.call_accept.specs.Accept.{refusedOf, acceptedOf, acceptedBy}
 
 -- the number of the first fact that holds, 0 if none does
 abbrev pub number : Participant → ℕ → Bool → List ℕ → ℕ

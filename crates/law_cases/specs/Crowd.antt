@@ -23,7 +23,8 @@ use Rattle.participant.specs.Keys.{noSlot, ofMember}
 use Rattle.call_judge.specs.Judge.{frameFacts}
 use Rattle.call_hearing.specs.Keys.{keyedOf}
 use Rattle.call_hearing.specs.Proof.{isRecent, namedIn, provesIn}
-use Rattle.call_receive.specs.Receive.{heardOf, admitted, tableFacts, receiveFacts, updatedBy, acceptedBy, receivedOf}
+use Rattle.call_receive.specs.Receive.{tableFacts, receiveFacts, receivedOf}
+use Rattle.call_accept.specs.Accept.{heardOf, admitted, updatedBy, acceptedBy}
 use Rattle.law_history.specs.Calls.{created, receives}
 use Rattle.law_cases.specs.Row.{Row, row, Right, each, Outcome, accepted, refused}
 use Rattle.law_cases.specs.Setting.{frame, comers, comes}

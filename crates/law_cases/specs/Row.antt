@@ -7,7 +7,7 @@ use Rattle.frame.specs.declared.BasicRead.{BasicRead}
 use Rattle.frame.specs.declared.BasicRead.the-variants as onBasic
 use Rattle.table_election.specs.declared.Server.{Server}
 use Rattle.participant.specs.declared.call.Answer.the-variants as onCall
-use Rattle.call_receive.specs.declared.Answer.the-variants as onReceive
+use Rattle.call_accept.specs.declared.Answer.the-variants as onReceive
 use Rattle.call_send.specs.declared.Answer.the-variants as onSend
 use Rattle.frame_writer.specs.declared.Wrote.the-variants as onWrite
 use Rattle.law_history.specs.Calls.{Answer, toReceive, toSend, toCall, toAsk, toSave}

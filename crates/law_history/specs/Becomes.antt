@@ -23,7 +23,8 @@ use Rattle.participant.specs.First.{NoneHolds}
 use Rattle.call_judge.specs.Judge.{basicIn, walkIn, placesIn, frameFacts}
 use Rattle.call_hearing.specs.Keys.{isServer, isKnown, keyFrom, keyedOf}
 use Rattle.call_hearing.specs.Proof.{provesIn}
-use Rattle.call_receive.specs.Receive.{heardOf, admitted, receiveFacts, updatedBy, acceptedBy}
+use Rattle.call_receive.specs.Receive.{receiveFacts}
+use Rattle.call_accept.specs.Accept.{heardOf, admitted, updatedBy, acceptedBy}
 use Rattle.call_send.specs.Send.{sendFacts, sentAt}
 use Rattle.law_history.specs.Calls.{Call, receives, sends, distributes, ticks, renews, reports, asks, saves, timeOf, identifierAfter, handed}
 use Rattle.law_history.specs.Steps.{facts, becomes}

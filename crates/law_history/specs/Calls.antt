@@ -17,8 +17,8 @@ use Rattle.participant.specs.declared.call.Answer as call
 use Rattle.participant.specs.declared.call.Answer.the-variants as onCall
 use Rattle.call_judge.specs.Judge.{basicIn}
 use Rattle.call_receive.specs.Receive.{receivedOf}
-use Rattle.call_receive.specs.declared.Answer as receive
-use Rattle.call_receive.specs.declared.Answer.the-variants as onReceive
+use Rattle.call_accept.specs.declared.Answer as receive
+use Rattle.call_accept.specs.declared.Answer.the-variants as onReceive
 use Rattle.call_send.specs.Send.{sentOf, leftBy}
 use Rattle.call_send.specs.declared.Answer as send
 use Rattle.call_send.specs.declared.Answer.the-variants as onSend

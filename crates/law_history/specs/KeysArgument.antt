@@ -30,7 +30,7 @@ use Rattle.participant.specs.declared.call.Answer.the-variants.{Done}
 use Rattle.law_calls.specs.Passed.{distribute-passed}
 use Rattle.call_judge.specs.Judge.{basicIn}
 use Rattle.call_hearing.specs.Keys.{isPeer, isServer, keyFrom}
-use Rattle.call_receive.specs.Receive.{admitted, updatedBy, acceptedBy}
+use Rattle.call_accept.specs.Accept.{admitted, updatedBy, acceptedBy}
 use Rattle.call_send.specs.Send.{sentAt}
 use Rattle.law_history.specs.Calls.{Creation, created, Call, receives, sends, distributes, ticks, renews, reports, asks, saves, after, accepted}
 use Rattle.law_history.specs.Steps.{becomes, accepted-none}

@@ -9,7 +9,7 @@ use mathlib.Core.Logic.{_↔_}
 use Rattle.participant.specs.declared.Participant.{Participant}
 use Rattle.participant.specs.First.{NoneHolds, First}
 use Rattle.participant.specs.declared.call.Answer.the-variants as onCall
-use Rattle.call_receive.specs.declared.Answer.the-variants as onReceive
+use Rattle.call_accept.specs.declared.Answer.the-variants as onReceive
 use Rattle.call_send.specs.declared.Answer.the-variants as onSend
 use Rattle.frame_writer.specs.declared.Wrote.the-variants as onWrite
 use Rattle.law_history.specs.Calls.{Call, receives, sends, distributes, ticks, renews, reports, asks, saves, Answer, toReceive, toSend, toCall, toAsk, toSave, answerOf, answered}

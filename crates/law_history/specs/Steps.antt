@@ -19,9 +19,10 @@ use Rattle.participant.specs.declared.call.Answer.the-variants.{Done, Refused}
 use Rattle.participant.specs.First.{NoneHolds, numbered}
 use Rattle.participant.proofs.Settle.{none-holds}
 use Rattle.call_judge.specs.Judge.{basicIn, walkIn, placesIn, frameFacts}
-use Rattle.call_receive.specs.Receive.{tableFacts, receiveFacts, acceptedBy, acceptedOf, receivedOf}
-use Rattle.call_receive.specs.Receive as receive
-use Rattle.call_receive.specs.declared.Received.{Received}
+use Rattle.call_receive.specs.Receive.{tableFacts, receiveFacts, receivedOf}
+use Rattle.call_accept.specs.Accept.{acceptedBy, acceptedOf}
+use Rattle.call_accept.specs.Accept as receive
+use Rattle.call_accept.specs.declared.Received.{Received}
 use Rattle.call_hearing.specs.declared.keys.Keyed.{Keyed}
 use Rattle.call_send.specs.Send.{frameAt, sendFacts, sentAt, sentOf, leftBy}
 use Rattle.call_send.specs.Send as send

@@ -29,7 +29,7 @@ use Rattle.law_calls.specs.Passed.{receive-passed, distribute-passed, renew-pas
 use Rattle.law_calls.specs.NeverArgument.{risen}
 use Rattle.call_judge.specs.Judge.{basicIn}
 use Rattle.call_hearing.specs.Keys.{isKnown, keyFrom, keyedOf}
-use Rattle.call_receive.specs.Receive.{admitted, updatedBy, acceptedBy}
+use Rattle.call_accept.specs.Accept.{admitted, updatedBy, acceptedBy}
 use Rattle.call_send.specs.Send.{sentAt}
 use Rattle.table_expiry.specs.Kept.{only}
 use Rattle.image_rules.specs.Rules.{useGood}

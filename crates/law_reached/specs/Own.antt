@@ -25,7 +25,7 @@ use Rattle.participant.proofs.Settle.{on-done}
 use Rattle.law_calls.specs.Settled.{create-settles}
 use Rattle.law_calls.specs.Passed.{send-passed, distribute-passed}
 use Rattle.law_calls.specs.NeverArgument.{risen}
-use Rattle.call_receive.specs.Receive.{admitted, updatedBy}
+use Rattle.call_accept.specs.Accept.{admitted, updatedBy}
 use Rattle.call_send.specs.Send.{sentAt}
 use Rattle.image_rules.specs.Rules.{zeros, unsentZero, undistributedZero, unusedZero}
 use Rattle.image_rules.specs.Records.{ownGood}

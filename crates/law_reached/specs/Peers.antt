@@ -33,7 +33,7 @@ use Rattle.participant.specs.declared.call.Answer.the-variants.{Done}
 use Rattle.participant.specs.First.{NoneHolds}
 use Rattle.law_calls.specs.Passed.{receive-passed}
 use Rattle.call_judge.specs.Judge.{basicIn}
-use Rattle.call_receive.specs.Receive.{heardOf}
+use Rattle.call_accept.specs.Accept.{heardOf}
 use Rattle.call_send.specs.Send.{sentAt}
 use Rattle.image_rules.specs.Rules.{twoBits}
 use Rattle.law_reread.specs.Fit.{FitPeer, FitPeers}

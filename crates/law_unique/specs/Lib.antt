@@ -28,6 +28,7 @@ pub mod Call_report
 pub mod Call_distribute
 pub mod Call_judge
 pub mod Call_hearing
+pub mod Call_accept
 pub mod Call_receive
 pub mod Call_send
 pub mod Image_layout

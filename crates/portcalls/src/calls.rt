@@ -7,7 +7,7 @@ use crate::state;
 use crate::state::Played;
 use crate::state::State;
 use crate::status;
-use call_receive::Answer as Heard;
+use call_accept::Answer as Heard;
 use call_send::Answer as Sent;
 use frame_writer::Wrote;
 use participant::Participant;

@@ -21,13 +21,17 @@ struct Head {
     len: u16,
 }
 
+pub(crate) fn put(fd: i32, text: &[u8]) -> bool {
+    io::write_all(fd, text)
+}
+
 // The beginning of each line on standard error.
 pub(crate) fn begin() {
-    io::write_all(STDERR_FILENO, b"portcalls: ");
+    put(STDERR_FILENO, b"portcalls: ");
 }
 
 fn write(text: &[u8]) -> bool {
-    let said = io::write_all(STDOUT_FILENO, text);
+    let said = put(STDOUT_FILENO, text);
     if !said {
         input::failed(b"", b"cannot write");
     }

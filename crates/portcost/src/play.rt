@@ -1,7 +1,7 @@
 // One call, played again and again on the same participant. What comes back goes into a sum, so that no play is idle.
 use crate::setup;
-use call_receive::Answer as Heard;
-use call_receive::Received;
+use call_accept::Answer as Heard;
+use call_accept::Received;
 use call_send::Answer as Sending;
 use call_send::Sent;
 use frame_writer::Wrote;

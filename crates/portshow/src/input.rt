@@ -4,14 +4,14 @@ use libc::STDIN_FILENO;
 
 pub(crate) fn complain(what: &[u8]) {
     crate::begin();
-    io::write_all(STDERR_FILENO, what);
-    io::write_all(STDERR_FILENO, b"\n");
+    crate::put(STDERR_FILENO, what);
+    crate::put(STDERR_FILENO, b"\n");
 }
 
 // What failed, and the system's words on why.
 pub(crate) fn failed(what: &[u8], name: &[u8]) {
     crate::begin();
-    io::write_all(STDERR_FILENO, what);
+    crate::put(STDERR_FILENO, what);
     os::fail(name);
 }
 
@@ -20,15 +20,18 @@ fn is(word: &[u8], option: &[u8]) -> bool {
     base_octets::u64_at(word, 0) == base_octets::u64_at(option, 0)
 }
 
-fn opened(name: &[u8]) -> i32 {
-    let fd = os::open_read(name);
-    if fd < 0 {
-        failed(b"cannot read ", name);
+// The descriptor to read: of the file that is named, or standard input. -1 if there is nothing to read, once that is said.
+pub(crate) fn named() -> i32 {
+    if os::arg_count() < 2 {
+        return STDIN_FILENO;
     }
-    fd
-}
-
-fn meant(word: &[u8]) -> i32 {
+    let mut name = [0u8; 1024];
+    let n = os::arg(1, &mut name);
+    if os::errno() != 0 {
+        failed(b"", b"the file's name");
+        return -1;
+    }
+    let word = &name[..n];
     if is(word, b"--help") {
         crate::help();
         return -1;
@@ -45,29 +48,24 @@ fn meant(word: &[u8]) -> i32 {
         complain(b"no such option; --help tells more");
         return -1;
     }
-    opened(word)
+    let fd = os::open_read(word);
+    if fd < 0 {
+        failed(b"cannot read ", word);
+    }
+    fd
 }
 
-// The descriptor to read: of the file that is named, or standard input. -1 if there is nothing to read, once that is said.
-pub(crate) fn named() -> i32 {
-    if os::arg_count() < 2 {
-        return STDIN_FILENO;
-    }
-    let mut word = [0u8; 1024];
-    let n = os::arg(1, &mut word);
-    if os::errno() != 0 {
-        failed(b"", b"the file's name");
-        return -1;
-    }
-    meant(&word[..n])
-}
-
-// io::read_full stops where the input ends and where a read fails: one more read tells which.
-pub(crate) fn ended(fd: i32) -> bool {
+// A read stops where the input ends and where it fails: one more tells which.
+pub(crate) fn at_end(fd: i32) -> bool {
     let mut one = [0u8; 1];
-    if libc::read(fd, &mut one) < 0 {
+    libc::read(fd, &mut one) >= 0
+}
+
+// The same, and says so if it failed.
+pub(crate) fn ended(fd: i32) -> bool {
+    let good = at_end(fd);
+    if !good {
         failed(b"", b"a read failed");
-        return false;
     }
-    true
+    good
 }

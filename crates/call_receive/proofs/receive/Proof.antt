@@ -1,6 +1,7 @@
 use Rattle.call_receive.proofs.Settled.{received-settled, settled-stale, settled-full, settled-good, stored, no-sak}
 use Rattle.call_receive.proofs.Laws as laws
-use Rattle.call_receive.specs.Receive.{refusalOf, refusedOf, acceptedOf, tableFacts, settledBy, receivedOf}
+use Rattle.call_receive.specs.Receive.{refusalOf, tableFacts, receivedOf}
+use Rattle.call_accept.specs.Accept.{refusedOf, acceptedOf, settledBy}
 use Rattle.call_hearing.specs.Keys.{keyedOf}
 use Rattle.call_hearing.specs.Proof.{provesIn}
 use Rattle.participant.specs.declared.Participant.{Participant}

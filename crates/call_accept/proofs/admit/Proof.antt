@@ -1,9 +1,9 @@
 use mathlib.Core.Path.{_≡_}
 use Rattle.table_lookup.specs.Look.{becomesLive}
-use Rattle.call_receive.specs.Receive.{admitted}
+use Rattle.call_accept.specs.Accept.{admitted}
 use borrow.Author.Needs.{needs}
-use Rattle.call_receive.proofs.late.admit.Statement.{statement}
-use Rattle.call_receive.proofs.late.admit.Tie as tie
+use Rattle.call_accept.proofs.admit.Statement.{statement}
+use Rattle.call_accept.proofs.admit.Tie as tie
 
 heard-of-requires : tie.Need-heard-of-requires
 heard-of-requires c κs = search needs

@@ -1,11 +1,11 @@
-use Rattle.call_receive.specs.Receive.{updatedBy, acceptedBy, settledBy}
+use Rattle.call_accept.specs.Accept.{updatedBy, acceptedBy, settledBy}
 use Rattle.call_hearing.specs.Proof.{provesIn}
 use Rattle.base_facts.proofs.Laws.{check-failed, check-passed}
 use denote.Ref.{now}
 use mathlib.Core.Path.{_≡_, sym, _∙_}
 use borrow.Author.Needs.{needs}
-use Rattle.call_receive.proofs.late.late.Statement.{statement}
-use Rattle.call_receive.proofs.late.late.Tie as tie
+use Rattle.call_accept.proofs.late.Statement.{statement}
+use Rattle.call_accept.proofs.late.Tie as tie
 
 aged-to-requires : tie.Need-aged-to-requires
 aged-to-requires c κs = search needs

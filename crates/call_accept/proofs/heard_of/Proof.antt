@@ -1,7 +1,7 @@
-use Rattle.call_receive.specs.Receive.{heardOf}
+use Rattle.call_accept.specs.Accept.{heardOf}
 use borrow.Author.Needs.{needs}
-use Rattle.call_receive.proofs.heard_of.Statement.{statement}
-use Rattle.call_receive.proofs.heard_of.Tie as tie
+use Rattle.call_accept.proofs.heard_of.Statement.{statement}
+use Rattle.call_accept.proofs.heard_of.Tie as tie
 
 returns : tie.Need-returns
 unfolding heardOf

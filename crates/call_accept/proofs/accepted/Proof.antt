@@ -1,8 +1,8 @@
-use Rattle.call_receive.specs.Receive.{acceptedOf}
+use Rattle.call_accept.specs.Accept.{acceptedOf}
 use mathlib.Core.Path.{ap}
 use borrow.Author.Needs.{needs}
-use Rattle.call_receive.proofs.accepted.Statement.{statement}
-use Rattle.call_receive.proofs.accepted.Tie as tie
+use Rattle.call_accept.proofs.accepted.Statement.{statement}
+use Rattle.call_accept.proofs.accepted.Tie as tie
 
 take-sak-requires : tie.Need-take-sak-requires
 take-sak-requires c κs = search needs

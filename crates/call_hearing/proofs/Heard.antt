@@ -11,20 +11,20 @@ use Rattle.base_mi.specs.Mi.{miSame}
 use Rattle.base_mi.specs.declared.Mi.{Mi}
 use Rattle.base_mi.specs.declared.entry.Entry.{Entry}
 use Rattle.frame_places.specs.declared.Spot.{Spot}
-use Rattle.frame_walk.specs.List.{entriesFrom, listAt, entriesIn, seek}
+use Rattle.frame_walk.specs.List.{entriesFrom, listAt, entriesIn, seekEntry}
 use Rattle.frame_walk.specs.declared.list.Found.the-variants.{At, Nothing}
 use Rattle.frame_walk.proofs.Lists.{length-entries}
 use Rattle.call_hearing.specs.Proof.{isRecent, anyRecent, namedIn}
 
 module _ (own : Mi) (last : ℕ) where
-  pub seek-at : (i : ℕ) (l : List Entry) (j mn : ℕ) → seek own i l ≡ At j mn
+  pub seek-at : (i : ℕ) (l : List Entry) (j mn : ℕ) → seekEntry own i l ≡ At j mn
       → (i ≤ j) × (j < i + length l) × (anyRecent own last l ≡ isRecent mn last || anyRecent own last (drop (j + 1 - i) l))
   seek-at i [] j mn e = let z : _≡_ {A = ℕ} 0 1 = cc in absurd (omega arith)
   seek-at i (x ∷ xs) j mn e = go (miSame (x .mi) own) (seek-at (i + 1) xs j mn) e
     where
       go : (t : Bool)
-          → (seek own (i + 1) xs ≡ At j mn → (i + 1 ≤ j) × (j < i + 1 + length xs) × (anyRecent own last xs ≡ isRecent mn last || anyRecent own last (drop (j + 1 - (i + 1)) xs)))
-          → cond t (At i (x .mn)) (seek own (i + 1) xs) ≡ At j mn
+          → (seekEntry own (i + 1) xs ≡ At j mn → (i + 1 ≤ j) × (j < i + 1 + length xs) × (anyRecent own last xs ≡ isRecent mn last || anyRecent own last (drop (j + 1 - (i + 1)) xs)))
+          → cond t (At i (x .mn)) (seekEntry own (i + 1) xs) ≡ At j mn
           → (i ≤ j) × (j < i + suc (length xs)) × ((t && isRecent (x .mn) last) || anyRecent own last xs ≡ isRecent mn last || anyRecent own last (drop (j + 1 - i) (x ∷ xs)))
       go true later e′ =
           let a : i ≡ j = cc in
@@ -36,17 +36,17 @@ module _ (own : Mi) (last : ℕ) where
           let d : j + 1 - i ≡ suc (j + 1 - (i + 1)) = omega (arith, r .0) in
           (omega (arith, r .0), omega (arith, r .1), rw d (r .2))
 
-  pub seek-none : (i : ℕ) (l : List Entry) → seek own i l ≡ Nothing → anyRecent own last l ≡ false
+  pub seek-none : (i : ℕ) (l : List Entry) → seekEntry own i l ≡ Nothing → anyRecent own last l ≡ false
   seek-none i [] e = refl
   seek-none i (x ∷ xs) e = go (miSame (x .mi) own) (seek-none (i + 1) xs) e
     where
-      go : (t : Bool) → (seek own (i + 1) xs ≡ Nothing → anyRecent own last xs ≡ false) → cond t (At i (x .mn)) (seek own (i + 1) xs) ≡ Nothing
+      go : (t : Bool) → (seekEntry own (i + 1) xs ≡ Nothing → anyRecent own last xs ≡ false) → cond t (At i (x .mn)) (seekEntry own (i + 1) xs) ≡ Nothing
           → (t && isRecent (x .mn) last) || anyRecent own last xs ≡ false
       go true later e′ = let z : _≡_ {A = ℕ} 0 1 = cc in absurd (omega arith)
       go false later e′ = later e′
 
   -- one entry with our identifier, of a list from index i on
-  pub named-next : (i : ℕ) (l : List Entry) (j mn : ℕ) → i ≤ length l → seek own i (drop i l) ≡ At j mn
+  pub named-next : (i : ℕ) (l : List Entry) (j mn : ℕ) → i ≤ length l → seekEntry own i (drop i l) ≡ At j mn
       → (i ≤ j) × (j < length l) × (anyRecent own last (drop i l) ≡ isRecent mn last || anyRecent own last (drop (j + 1) l))
   named-next i l j mn h e =
       let a = seek-at i (drop i l) j mn e in

@@ -11,7 +11,7 @@ use Rattle.base_mi.specs.Mi.{miSame}
 use Rattle.base_mi.specs.Entry.{entryAt}
 use Rattle.base_mi.specs.declared.Mi.{Mi}
 use Rattle.base_mi.specs.declared.entry.Entry.{Entry}
-use Rattle.frame_walk.specs.List.{entriesFrom, seek}
+use Rattle.frame_walk.specs.List.{entriesFrom, seekEntry}
 use Rattle.frame_walk.specs.declared.list.Found.the-variants.{At, Nothing}
 
 pub length-entries : (n : ℕ) (s : List ℕ) (p : ℕ) → length (entriesFrom n s p) ≡ n
@@ -36,13 +36,13 @@ module _ (n : ℕ) (s : List ℕ) (p : ℕ) (m : Mi) where
       let h′ : i < length (entriesFrom n s p) = omega arith in
       rw (add-one, drop-cons (entriesFrom n s p) i d h′, getD-entries n s p i d h)
 
-  pub seek-hit : (i : ℕ) → i < n → miSame (entryAt s (p + i * 16) .mi) m ≡ true → seek m i (drop i (entriesFrom n s p)) ≡ At i (entryAt s (p + i * 16) .mn)
+  pub seek-hit : (i : ℕ) → i < n → miSame (entryAt s (p + i * 16) .mi) m ≡ true → seekEntry m i (drop i (entriesFrom n s p)) ≡ At i (entryAt s (p + i * 16) .mn)
   seek-hit i h e = rw (headed i h, e)
 
-  pub seek-miss : (i : ℕ) → i < n → miSame (entryAt s (p + i * 16) .mi) m ≡ false → seek m (i + 1) (drop (i + 1) (entriesFrom n s p)) ≡ seek m i (drop i (entriesFrom n s p))
+  pub seek-miss : (i : ℕ) → i < n → miSame (entryAt s (p + i * 16) .mi) m ≡ false → seekEntry m (i + 1) (drop (i + 1) (entriesFrom n s p)) ≡ seekEntry m i (drop i (entriesFrom n s p))
   seek-miss i h e = rw (headed i h, e)
 
-  pub seek-end : (i : ℕ) → n ≤ i → seek m i (drop i (entriesFrom n s p)) ≡ Nothing
+  pub seek-end : (i : ℕ) → n ≤ i → seekEntry m i (drop i (entriesFrom n s p)) ≡ Nothing
   seek-end i h =
       let len = length-entries n s p in
       let h′ : length (entriesFrom n s p) ≤ i = omega arith in

@@ -22,9 +22,9 @@ unfoldable pub listAt : core.List ℕ → ℕ → ℕ → core.List Entry
 listAt s place len = entriesFrom (len / 16) s (place + 4)
 
 -- The first entry with the identifier m; the entries are numbered from i on.
-abbrev pub seek : Mi → ℕ → core.List Entry → Found
-seek m i [] = Nothing
-seek m i (e ∷ es) = cond (miSame (e .mi) m) (At i (e .mn)) (seek m (i + 1) es)
+abbrev pub seekEntry : Mi → ℕ → core.List Entry → Found
+seekEntry m i [] = Nothing
+seekEntry m i (e ∷ es) = cond (miSame (e .mi) m) (At i (e .mn)) (seekEntry m (i + 1) es)
 
 -- The entries of a list that fits the frame; none of one that doesn't.
 unfoldable pub entriesIn : core.List ℕ → ℕ → ℕ → core.List Entry
@@ -32,4 +32,4 @@ entriesIn s place len = cond (ltb (length s) (place + (4 + len))) [] (listAt s p
 
 -- From the entry with index `from` on.
 unfoldable pub foundIn : core.List ℕ → ℕ → ℕ → ℕ → Mi → Found
-foundIn s place len from m = seek m from (drop from (entriesIn s place len))
+foundIn s place len from m = seekEntry m from (drop from (entriesIn s place len))

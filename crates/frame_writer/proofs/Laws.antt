@@ -19,7 +19,7 @@ use Rattle.frame_sets.specs.declared.kinds.SakUse.{SakUse}
 use Rattle.frame_writer.specs.declared.Sender.{Sender}
 use Rattle.frame_writer.specs.declared.Sak.{Sak}
 use Rattle.frame_writer.specs.declared.Mkpdu.{Mkpdu}
-use Rattle.frame_writer.specs.Frame.{headerOctets, cknOf, fixedOctets, cknOctets, basicOctets, setHeader, listOctets, listSet, keyOctets, useSet, usePart, sakSet, sakPart, bodyOctets, frameOf}
+use Rattle.frame_writer.specs.Frame.{headerOctets, cknOf, fixedOctets, cknOctets, basicOctets, setHeader, listOctets, listSet, useOctets, useSet, usePart, sakSet, sakPart, bodyOctets, frameOf}
 
 -- the length of an array of structs that is a struct's field, from what owning the struct tells
 pub unmapped : (X Y : Type 0) (f : X → Y) (l : List X) (n : ℕ) → length (map f l) ≡ n → length l ≡ n
@@ -93,8 +93,8 @@ pub some-part : (t : Bool) (a : List ℕ) → not t ≡ false → cond t a [] �
 some-part true a e = refl
 some-part false a e = let z : _≡_ {A = ℕ} 0 1 = cc in absurd (omega arith)
 
-pub length-key : (k : KeyUse) → length (keyOctets k) ≡ 20
-unfolding keyOctets
+pub length-key : (k : KeyUse) → length (useOctets k) ≡ 20
+unfolding useOctets
 length-key k = simp (length-append, length-beOf, length-mi)
 
 pub length-use : (u : SakUse) → length (useSet u) ≡ 44

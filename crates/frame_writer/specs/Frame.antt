@@ -60,16 +60,16 @@ listOctets es = runsOf entryOctets es
 unfoldable pub listSet : ℕ → List Entry → List ℕ
 listSet t es = cond (eqb (length es) 0) [] (setHeader t 0 (length es * 16) ++ listOctets es)
 
-abbrev pub keyFlags : KeyUse → KeyFlags
-keyFlags k = record { an = k .an; transmit = k .transmit; receive = k .receive }
+abbrev pub useFlags : KeyUse → KeyFlags
+useFlags k = record { an = k .an; transmit = k .transmit; receive = k .receive }
 
 -- "MI 12, KN 4, lowest PN 4"
-unfoldable pub keyOctets : KeyUse → List ℕ
-keyOctets k = miOctets (k .mi) ++ (beOf 4 (k .kn) ++ beOf 4 (k .pn))
+unfoldable pub useOctets : KeyUse → List ℕ
+useOctets k = miOctets (k .mi) ++ (beOf 4 (k .kn) ++ beOf 4 (k .pn))
 
 -- "SAK Use"
 unfoldable pub useSet : SakUse → List ℕ
-useSet u = setHeader 3 (usedOctet (record { latest = keyFlags (u .latest); old = keyFlags (u .old) })) 40 ++ (keyOctets (u .latest) ++ keyOctets (u .old))
+useSet u = setHeader 3 (usedOctet (record { latest = useFlags (u .latest); old = useFlags (u .old) })) 40 ++ (useOctets (u .latest) ++ useOctets (u .old))
 
 abbrev pub usePart : Bool → SakUse → List ℕ
 usePart used u = cond used (useSet u) []

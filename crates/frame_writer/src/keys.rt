@@ -10,10 +10,10 @@ ghost use mathlib.Core.Path.{_≡_};
 ghost use Prim.Native.Nat.{_+_, _<_, _^_};
 ghost use lib.ListN.{length};
 ghost use lib.Seq.{sets};
-ghost use Rattle.frame_writer.specs.Frame.{keyFlags, keyOctets, usePart, sakPart};
+ghost use Rattle.frame_writer.specs.Frame.{useFlags, useOctets, usePart, sakPart};
 
 fn key_flags(k: KeyUse) -> KeyFlags
-    ensures { λ r. ⌜ r ≡ keyFlags k ⌝ }
+    ensures { λ r. ⌜ r ≡ useFlags k ⌝ }
 {
     KeyFlags {
         an: k.an,
@@ -24,7 +24,7 @@ fn key_flags(k: KeyUse) -> KeyFlags
 
 fn put_key(out: &mut [u8], at: usize, k: KeyUse)
     requires { ⌜ at < 2 ^ 63 ⌝ }
-    ensures { λ _. ⌜ now (out .exit) ≡ sets (now (out .entry)) at (keyOctets k) ⌝ }
+    ensures { λ _. ⌜ now (out .exit) ≡ sets (now (out .entry)) at (useOctets k) ⌝ }
 {
     let m = k.mi;
     base_mi::put_mi(out, at, m);

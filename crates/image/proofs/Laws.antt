@@ -12,7 +12,7 @@ use Rattle.table.specs.declared.Table.{Table}
 use Rattle.law_lists.specs.Laws.{by-cases}
 use Rattle.participant.specs.declared.Slot.{Slot}
 use Rattle.participant.specs.declared.Participant.{Participant}
-use Rattle.image_layout.specs.Layout.{headOf, entryOf, entriesFrom, bodies, laidOf}
+use Rattle.image_layout.specs.Layout.{contentsHead, contentsEntry, contentsEntries, bodies, laidOf}
 use Rattle.image_layout.proofs.Laws.{length-head, length-entry}
 use Rattle.image_own.specs.Own.{ownOctets}
 use Rattle.image_peer.specs.Peer.{peerOctets, peersOctets}
@@ -42,7 +42,7 @@ module _ (p : Participant) (n : ℕ) (ckn : length (p .ckn) ≡ 32) (wrapped : l
       imageOf p
       ≡ contentsFor n (bit (p .latest .held) + bit (p .old .held))
       ++ (ownOctets p ++ (peersOctets (entries (p .table)) ++ (slotOctets (p .latest) ++ slotOctets (p .old))))
-  unfolding imageOf laidOf entriesFrom bodies ownPart peersPart keysPart contentsFor
+  unfolding imageOf laidOf contentsEntries bodies ownPart peersPart keysPart contentsFor
   image-is =
       let own = length-own p ckn wrapped in
       let peers = length-peers (p .table) in

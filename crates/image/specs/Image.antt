@@ -5,7 +5,7 @@ use lib.ListN.{length}
 use Rattle.base_packed.specs.Bit.{bit}
 use Rattle.table.specs.Table.{entries}
 use Rattle.participant.specs.declared.Participant.{Participant}
-use Rattle.image_layout.specs.Layout.{Part, headOf, entryOf, laidOf}
+use Rattle.image_layout.specs.Layout.{Part, contentsHead, contentsEntry, laidOf}
 use Rattle.image_own.specs.Own.{ownOctets}
 use Rattle.image_peer.specs.Peer.{peersOctets}
 use Rattle.image_key.specs.Key.{slotOctets}
@@ -28,7 +28,7 @@ keysPart p =
 
 -- The contents table of an image with n peers and k keys.
 unfoldable pub contentsFor : ℕ → ℕ → List ℕ
-contentsFor n k = headOf 3 ++ (entryOf 1 1 28 ++ (entryOf 2 n 144 ++ entryOf 3 k (144 + n * 44)))
+contentsFor n k = contentsHead 3 ++ (contentsEntry 1 1 28 ++ (contentsEntry 2 n 144 ++ contentsEntry 3 k (144 + n * 44)))
 
 unfoldable pub imageOf : Participant → List ℕ
 imageOf p = laidOf (ownPart p ∷ peersPart p ∷ keysPart p ∷ [])

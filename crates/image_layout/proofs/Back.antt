@@ -12,7 +12,7 @@ use borrow.Author.Tests.{eqb-true}
 use Rattle.base_octets.specs.Number.{beAt, beOf}
 use Rattle.base_octets.specs.Octets.{Octets}
 use Rattle.base_octets.proofs.Laws.{beAt-lt, be-back}
-use Rattle.image_layout.specs.Layout.{headOf, entryOf, entriesFrom, bodies, place, laidOf, kindAt, recordsAt, offsetAt, laidFrom, laidOut, partsFrom, partsIn}
+use Rattle.image_layout.specs.Layout.{contentsHead, contentsEntry, contentsEntries, bodies, place, laidOf, entryKind, recordsAt, offsetAt, laidFrom, laidOut, partsFrom, partsIn}
 use Rattle.image_layout.proofs.Round.{Matching, ToldFrom}
 
 clash {ℓ} : {C : Type ℓ} → false ≡ true → C
@@ -27,14 +27,14 @@ three-of false b c e = clash e
 -- the entries from i on, of kinds whose records have these sizes: each tells its kind and where its body begins, and the last body ends the image
 abbrev pub PlacedFrom : List ℕ → ℕ → ℕ → List ℕ → Type 0
 PlacedFrom s i at [] = at ≡ length s
-PlacedFrom s i at (k ∷ ks) = (kindAt s i ≡ i + 1) × (offsetAt s i ≡ at) × PlacedFrom s (i + 1) (at + recordsAt s i * k) ks
+PlacedFrom s i at (k ∷ ks) = (entryKind s i ≡ i + 1) × (offsetAt s i ≡ at) × PlacedFrom s (i + 1) (at + recordsAt s i * k) ks
 
 pub placed-from : (s : List ℕ) (i at : ℕ) (sizes : List ℕ) → laidFrom s i at sizes ≡ true → PlacedFrom s i at sizes
 unfolding laidFrom
 placed-from s i at [] e = eqb-true _ _ e
 placed-from s i at (k ∷ ks) e =
     let at′ = at + recordsAt s i * k in
-    let t = three-of (eqb (kindAt s i) (i + 1)) (eqb (offsetAt s i) at) (laidFrom s (i + 1) at′ ks) e in
+    let t = three-of (eqb (entryKind s i) (i + 1)) (eqb (offsetAt s i) at) (laidFrom s (i + 1) at′ ks) e in
     (eqb-true _ _ (t .0), eqb-true _ _ (t .1), placed-from s (i + 1) at′ ks (t .2))
 
 -- every body ends within the image
@@ -62,8 +62,8 @@ parts-bodies s i at (k ∷ ks) p =
     let n = recordsAt s i * k in
     rw (parts-bodies s (i + 1) (at + n) ks (p .2), ← drop-drop n at s) (take-append-drop n (drop at s))
 
-entry-back : (s : List ℕ) (i : ℕ) → Octets s → place i + 8 ≤ length s → entryOf (kindAt s i) (recordsAt s i) (offsetAt s i) ≡ take 8 (drop (place i) s)
-unfolding entryOf kindAt recordsAt offsetAt
+entry-back : (s : List ℕ) (i : ℕ) → Octets s → place i + 8 ≤ length s → contentsEntry (entryKind s i) (recordsAt s i) (offsetAt s i) ≡ take 8 (drop (place i) s)
+unfolding contentsEntry entryKind recordsAt offsetAt
 entry-back s i h fit =
     let a : place i + 2 ≤ length s = omega arith in
     let b : place i + 2 + 2 ≤ length s = omega arith in
@@ -73,18 +73,18 @@ entry-back s i h fit =
     ∙ cut-add s (place i) 2 6
 
 parts-entries : (s : List ℕ) (i at : ℕ) (sizes : List ℕ) → Octets s → PlacedFrom s i at sizes → place (i + length sizes) ≤ length s
-    → entriesFrom (suc i) at (partsFrom s i at sizes) ≡ take (length sizes * 8) (drop (place i) s)
-unfolding partsFrom entriesFrom
+    → contentsEntries (suc i) at (partsFrom s i at sizes) ≡ take (length sizes * 8) (drop (place i) s)
+unfolding partsFrom contentsEntries
 parts-entries s i at [] h p fit = refl
 parts-entries s i at (k ∷ ks) h p fit =
     let n = recordsAt s i * k in
     let here : at + n ≤ length s = placed-fit s (i + 1) (at + n) ks (p .2) in
     let fit′ : place (i + 1 + length ks) ≤ length s = omega arith in
     let one : place i + 8 ≤ length s = omega arith in
-    let e : entryOf (suc i) (recordsAt s i) at ≡ take 8 (drop (place i) s) =
-    ap₂ (λ (a b : ℕ). entryOf a (recordsAt s i) b) (sym (add-one i) ∙ sym (p .0)) (sym (p .1)) ∙ entry-back s i h one in
+    let e : contentsEntry (suc i) (recordsAt s i) at ≡ take 8 (drop (place i) s) =
+    ap₂ (λ (a b : ℕ). contentsEntry a (recordsAt s i) b) (sym (add-one i) ∙ sym (p .0)) (sym (p .1)) ∙ entry-back s i h one in
     let next : place (i + 1) ≡ place i + 8 = omega arith in
-    let rest : entriesFrom (suc (suc i)) (at + n) (partsFrom s (i + 1) (at + n) ks) ≡ take (length ks * 8) (drop (place i + 8) s) =
+    let rest : contentsEntries (suc (suc i)) (at + n) (partsFrom s (i + 1) (at + n) ks) ≡ take (length ks * 8) (drop (place i + 8) s) =
     rw (← next, ← add-one i) (parts-entries s (i + 1) (at + n) ks h (p .2) fit′) in
     let all : 8 + length ks * 8 ≡ suc (length ks) * 8 = omega arith in
     rw (length-cut s at n here, e, rest, ← all) (cut-add s (place i) 8 (length ks * 8))
@@ -144,7 +144,7 @@ module _ (s sizes : List ℕ) (e : laidOut s sizes ≡ true) where
   laid-told = parts-told s 0 (place (length sizes)) sizes laid-placed
 
   pub laid-back : Octets s → s ≡ laidOf (partsIn s sizes)
-  unfolding laidOf partsIn headOf
+  unfolding laidOf partsIn contentsHead
   laid-back h =
       let n = length sizes in
       let at = place n in
@@ -156,6 +156,6 @@ module _ (s sizes : List ℕ) (e : laidOut s sizes ≡ true) where
       let b : 2 + 2 ≤ length s = omega arith in
       let head : beOf 2 n ++ beOf 2 0 ≡ take 4 s =
       ap₂ (λ (x y : ℕ). beOf 2 x ++ beOf 2 y) (sym laid-count) (sym laid-zero) ∙ ap₂ _++_ (be-back s 0 2 h a) (be-back s 2 2 h b) ∙ cut-add s 0 2 2 in
-      let entries : entriesFrom 1 at ps ≡ take (n * 8) (drop 4 s) = parts-entries s 0 at sizes h laid-placed fit′ in
+      let entries : contentsEntries 1 at ps ≡ take (n * 8) (drop 4 s) = parts-entries s 0 at sizes h laid-placed fit′ in
       let rest : bodies ps ≡ drop (n * 8) (drop 4 s) = parts-bodies s 0 at sizes laid-placed ∙ sym (drop-drop (n * 8) 4 s) in
       sym (rw (len, head, entries, rest, take-append-drop (n * 8) (drop 4 s)) (take-append-drop 4 s))

@@ -12,7 +12,7 @@ use borrow.Author.Tests.{eq-eqb}
 use Rattle.base_octets.specs.Number.{beAt, beOf}
 use Rattle.base_octets.proofs.Laws.{length-beOf}
 use Rattle.base_octets.proofs.Fields.{Stands, first, second, moved, number-stands}
-use Rattle.image_layout.specs.Layout.{Part, headOf, entryOf, entriesFrom, bodies, place, laidOf, kindAt, recordsAt, offsetAt, laidFrom, laidOut, partsFrom, partsIn}
+use Rattle.image_layout.specs.Layout.{Part, contentsHead, contentsEntry, contentsEntries, bodies, place, laidOf, entryKind, recordsAt, offsetAt, laidFrom, laidOut, partsFrom, partsIn}
 use Rattle.image_layout.proofs.Laws.{length-head, length-entry, length-entries, length-laid, laid-counted}
 
 -- parts whose records have these sizes
@@ -30,7 +30,7 @@ matching-length (p ∷ ps) (k ∷ ks) m = ap suc (matching-length ps ks (m .2))
 
 -- entry i of an image tells of the part, whose octets stand at `at`
 pub record Told (s : List ℕ) (i : ℕ) (p : Part) (at : ℕ) : Type 0 where
-  pub kind : kindAt s i ≡ i + 1
+  pub kind : entryKind s i ≡ i + 1
   pub records : recordsAt s i ≡ p .records
   pub offset : offsetAt s i ≡ at
   pub body : Stands s (p .body) at
@@ -40,14 +40,14 @@ abbrev pub ToldFrom : List ℕ → ℕ → ℕ → List Part → Type 0
 ToldFrom s i at [] = Unit {0}
 ToldFrom s i at (p ∷ ps) = Told s i p at × ToldFrom s (i + 1) (at + length (p .body)) ps
 
-module _ (s : List ℕ) (i records at : ℕ) (hi : suc i < 2 ^ 16) (hr : records < 2 ^ 16) (ha : at < 2 ^ 32) (st : Stands s (entryOf (suc i) records at) (place i)) where
-  entry-kind : kindAt s i ≡ i + 1
-  unfolding kindAt entryOf
+module _ (s : List ℕ) (i records at : ℕ) (hi : suc i < 2 ^ 16) (hr : records < 2 ^ 16) (ha : at < 2 ^ 32) (st : Stands s (contentsEntry (suc i) records at) (place i)) where
+  entry-kind : entryKind s i ≡ i + 1
+  unfolding entryKind contentsEntry
   entry-kind =
       number-stands s 2 (suc i) (place i) (omega arith) (first s (beOf 2 (suc i)) (beOf 2 records ++ beOf 4 at) (place i) st) ∙ sym (add-one i)
 
   rest : Stands s (beOf 2 records ++ beOf 4 at) (place i + 2)
-  unfolding entryOf
+  unfolding contentsEntry
   rest = second s (beOf 2 (suc i)) (beOf 2 records ++ beOf 4 at) (place i) 2 (length-beOf 2 (suc i)) st
 
   entry-records : recordsAt s i ≡ records
@@ -61,8 +61,8 @@ module _ (s : List ℕ) (i records at : ℕ) (hi : suc i < 2 ^ 16) (hr : records
       number-stands s 4 at (place i + 4) (omega arith) (moved s (beOf 4 at) _ _ e (second s (beOf 2 records) (beOf 4 at) (place i + 2) 2 (length-beOf 2 records) rest))
 
 told-from : (s : List ℕ) (i at : ℕ) (ps : List Part) (sizes : List ℕ) → Matching ps sizes → i + length ps < 2 ^ 16 → at + length (bodies ps) < 2 ^ 32
-    → Stands s (entriesFrom (suc i) at ps) (place i) → Stands s (bodies ps) at → ToldFrom s i at ps
-unfolding entriesFrom bodies
+    → Stands s (contentsEntries (suc i) at ps) (place i) → Stands s (bodies ps) at → ToldFrom s i at ps
+unfolding contentsEntries bodies
 told-from s i at [] sizes m n z e b = tt
 told-from s i at (p ∷ ps) [] m n z e b = absurd m
 told-from s i at (p ∷ ps) (k ∷ ks) m n z e b =
@@ -74,8 +74,8 @@ told-from s i at (p ∷ ps) (k ∷ ks) m n z e b =
     let n′ : i + 1 + length ps < 2 ^ 16 = omega arith in
     let z′ : at′ + length (bodies ps) < 2 ^ 32 = omega arith in
     let next : place i + 8 ≡ place (suc i) = omega arith in
-    let one = first s (entryOf (suc i) r at) (entriesFrom (suc (suc i)) at′ ps) (place i) e in
-    let more = moved s (entriesFrom (suc (suc i)) at′ ps) _ _ next (second s (entryOf (suc i) r at) (entriesFrom (suc (suc i)) at′ ps) (place i) 8 (length-entry (suc i) r at) e) in (
+    let one = first s (contentsEntry (suc i) r at) (contentsEntries (suc (suc i)) at′ ps) (place i) e in
+    let more = moved s (contentsEntries (suc (suc i)) at′ ps) _ _ next (second s (contentsEntry (suc i) r at) (contentsEntries (suc (suc i)) at′ ps) (place i) 8 (length-entry (suc i) r at) e) in (
       record {
         kind = entry-kind s i r at hi (m .0) ha one;
         records = entry-records s i r at hi (m .0) ha one;
@@ -122,22 +122,22 @@ told-parts s i at (p ∷ ps) (k ∷ ks) m t =
     rw (n, t .0 .records, cut-stands s (p .body) at (t .0 .body), told-parts s (i + 1) (at + length (p .body)) ps ks (m .2) (t .1))
 
 module _ (ps : List Part) (sizes : List ℕ) (m : Matching ps sizes) (few : length ps < 2 ^ 16) (fit : length (laidOf ps) < 2 ^ 32) where
-  tail-stands : Stands (laidOf ps) (entriesFrom 1 (place (length ps)) ps ++ bodies ps) 4
+  tail-stands : Stands (laidOf ps) (contentsEntries 1 (place (length ps)) ps ++ bodies ps) 4
   unfolding laidOf
   tail-stands =
       record {
-        before = headOf (length ps);
+        before = contentsHead (length ps);
         after = [];
-        whole = ap (λ (l : List ℕ). headOf (length ps) ++ l) (sym (append-nil _));
+        whole = ap (λ (l : List ℕ). contentsHead (length ps) ++ l) (sym (append-nil _));
         place = length-head (length ps);
       }
 
   head-stands : Stands (laidOf ps) (beOf 2 (length ps) ++ beOf 2 0) 0
-  unfolding laidOf headOf
+  unfolding laidOf contentsHead
   head-stands =
       record {
         before = [];
-        after = entriesFrom 1 (place (length ps)) ps ++ bodies ps;
+        after = contentsEntries 1 (place (length ps)) ps ++ bodies ps;
         whole = refl;
         place = refl;
       }
@@ -147,7 +147,7 @@ module _ (ps : List Part) (sizes : List ℕ) (m : Matching ps sizes) (few : leng
   told =
       let n : 0 + length ps < 2 ^ 16 = omega arith in
       let z : place (length ps) + length (bodies ps) < 2 ^ 32 = omega (arith, length-laid ps) in
-      let es = entriesFrom 1 (place (length ps)) ps in
+      let es = contentsEntries 1 (place (length ps)) ps in
       told-from (laidOf ps) 0 (place (length ps)) ps sizes m n z
       (first (laidOf ps) es (bodies ps) 4 tail-stands)
       (second (laidOf ps) es (bodies ps) 4 (length ps * 8) (length-entries 1 (place (length ps)) ps) tail-stands)

@@ -13,17 +13,17 @@ pub record Part : Type 0 where
   pub body : List ℕ
 
 -- "count 3 (2 octets), 0 (2 octets)"
-unfoldable pub headOf : ℕ → List ℕ
-headOf kinds = beOf 2 kinds ++ beOf 2 0
+unfoldable pub contentsHead : ℕ → List ℕ
+contentsHead kinds = beOf 2 kinds ++ beOf 2 0
 
 -- "kind (2), number of records (2), offset (4)"
-unfoldable pub entryOf : ℕ → ℕ → ℕ → List ℕ
-entryOf kind records offset = beOf 2 kind ++ (beOf 2 records ++ beOf 4 offset)
+unfoldable pub contentsEntry : ℕ → ℕ → ℕ → List ℕ
+contentsEntry kind records offset = beOf 2 kind ++ (beOf 2 records ++ beOf 4 offset)
 
 -- The entries from a kind on, whose bodies begin at `at`.
-unfoldable pub entriesFrom : ℕ → ℕ → List Part → List ℕ
-entriesFrom kind at [] = []
-entriesFrom kind at (p ∷ ps) = entryOf kind (p .records) at ++ entriesFrom (suc kind) (at + length (p .body)) ps
+unfoldable pub contentsEntries : ℕ → ℕ → List Part → List ℕ
+contentsEntries kind at [] = []
+contentsEntries kind at (p ∷ ps) = contentsEntry kind (p .records) at ++ contentsEntries (suc kind) (at + length (p .body)) ps
 
 -- "Bodies follow in that order without gaps"
 unfoldable pub bodies : List Part → List ℕ
@@ -36,11 +36,11 @@ place i = 4 + i * 8
 
 -- The octets of an image of these parts.
 unfoldable pub laidOf : List Part → List ℕ
-laidOf ps = headOf (length ps) ++ (entriesFrom 1 (place (length ps)) ps ++ bodies ps)
+laidOf ps = contentsHead (length ps) ++ (contentsEntries 1 (place (length ps)) ps ++ bodies ps)
 
 -- What an entry says.
-unfoldable pub kindAt : List ℕ → ℕ → ℕ
-kindAt s i = beAt s (place i) 2
+unfoldable pub entryKind : List ℕ → ℕ → ℕ
+entryKind s i = beAt s (place i) 2
 
 unfoldable pub recordsAt : List ℕ → ℕ → ℕ
 recordsAt s i = beAt s (place i + 2) 2
@@ -51,7 +51,7 @@ offsetAt s i = beAt s (place i + 4) 4
 -- The entries from i on are those of kinds whose records have these sizes, the first body at `at`; the last one "end[s] the image".
 unfoldable pub laidFrom : List ℕ → ℕ → ℕ → List ℕ → Bool
 laidFrom s i at [] = eqb at (length s)
-laidFrom s i at (k ∷ ks) = eqb (kindAt s i) (i + 1) && (eqb (offsetAt s i) at && laidFrom s (i + 1) (at + recordsAt s i * k) ks)
+laidFrom s i at (k ∷ ks) = eqb (entryKind s i) (i + 1) && (eqb (offsetAt s i) at && laidFrom s (i + 1) (at + recordsAt s i * k) ks)
 
 -- "this layout", of kinds 1, 2, .. whose records have these sizes
 unfoldable pub laidOut : List ℕ → List ℕ → Bool

@@ -3,10 +3,10 @@
 ghost use mathlib.Core.Path.{_≡_};
 ghost use Prim.Native.Nat.{_+_, _*_};
 ghost use lib.Seq.{sets};
-ghost use Rattle.image_layout.specs.Layout.{place, headOf, entryOf, recordsAt, offsetAt, laidOut};
+ghost use Rattle.image_layout.specs.Layout.{place, contentsHead, contentsEntry, recordsAt, offsetAt, laidOut};
 
 pub fn put_head(out: &mut [u8], kinds: u16)
-    ensures { λ _. ⌜ now (out .exit) ≡ sets (now (out .entry)) 0 (headOf kinds) ⌝ }
+    ensures { λ _. ⌜ now (out .exit) ≡ sets (now (out .entry)) 0 (contentsHead kinds) ⌝ }
 {
     base_octets::put_u16(out, 0, kinds);
     base_octets::put_u16(out, 2, 0);
@@ -14,7 +14,7 @@ pub fn put_head(out: &mut [u8], kinds: u16)
 
 // The entry of a kind, which stands by its number.
 pub fn put_entry(out: &mut [u8], kind: u8, records: u16, offset: u32)
-    ensures { λ _. ⌜ now (out .exit) ≡ sets (now (out .entry)) (place kind) (entryOf (kind + 1) records offset) ⌝ }
+    ensures { λ _. ⌜ now (out .exit) ≡ sets (now (out .entry)) (place kind) (contentsEntry (kind + 1) records offset) ⌝ }
 {
     let at = 4 + kind as usize * 8;
     base_octets::put_u16(out, at, kind as u16 + 1);

@@ -12,7 +12,7 @@ use Rattle.table.specs.declared.Peer.{Peer}
 use Rattle.law_lists.specs.Lists.{every}
 use Rattle.table.specs.Table.{entries}
 use Rattle.table_expiry.specs.Expiry.{freshPeer}
-use Rattle.table_expiry.specs.Kept.{only, unprovenZero, timely, freshProof, ordered, distinct, absent, numbered, peerRules}
+use Rattle.table_expiry.specs.Kept.{only, unprovenZero, timely, freshProof, ordered, distinct, absent, hasNumber, peerRules}
 use Rattle.participant.specs.declared.Participant.{Participant}
 use Rattle.image_rules.specs.Rules.{inRanges, twoBits, everyKey, underFour, useGood, unusedZero, ownTimely, keysDistinct, keyNumbered, withinOurs, rules}
 use Rattle.image_rules.specs.Records.{ownGood, proofGood, timesGood, peerGood, peersGood, keyGood, slotGood, keysGood}
@@ -70,8 +70,8 @@ peers-by-rule own clock [] = refl
 peers-by-rule own clock (q ∷ l) =
     ap (λ (y : Bool). peerGood own clock q && (absent (q .mi) l && y)) (peers-by-rule own clock l)
     ∙ shuffle (twoBits q) (leb (q .accepted) clock) (freshPeer clock q) (freshProof clock q) (proofGood q) (unprovenZero q) (timely clock q) (ordered q)
-    (numbered q) (not (miSame own (q .mi))) (absent (q .mi) l) (every twoBits l) (every unprovenZero l) (every (timely clock) l) (every (freshPeer clock) l)
-    (every (freshProof clock) l) (every ordered l) (distinct l) (absent own l) (every numbered l) (proof-times clock q)
+    (hasNumber q) (not (miSame own (q .mi))) (absent (q .mi) l) (every twoBits l) (every unprovenZero l) (every (timely clock) l) (every (freshPeer clock) l)
+    (every (freshProof clock) l) (every ordered l) (distinct l) (absent own l) (every hasNumber l) (proof-times clock q)
 
 -- ---- the keys
 

@@ -7,7 +7,7 @@ use Rattle.base_mi.specs.Mi.{miSame}
 use Rattle.base_mi.specs.declared.Mi.{Mi}
 use Rattle.table.specs.declared.Peer.{Peer}
 use Rattle.table_expiry.specs.Expiry.{freshPeer}
-use Rattle.table_expiry.specs.Kept.{only, freshProof, absent, numbered}
+use Rattle.table_expiry.specs.Kept.{only, freshProof, absent, hasNumber}
 use Rattle.participant.specs.declared.Key.{Key}
 use Rattle.participant.specs.declared.Slot.{Slot}
 use Rattle.participant.specs.declared.Participant.{Participant}
@@ -24,7 +24,7 @@ unfoldable pub timesGood : ℕ → Peer → Bool
 timesGood clock q = leb (q .accepted) clock && (freshPeer clock q && (freshProof clock q && proofGood q))
 
 unfoldable pub peerGood : Mi → ℕ → Peer → Bool
-peerGood own clock q = twoBits q && (timesGood clock q && (numbered q && not (miSame own (q .mi))))
+peerGood own clock q = twoBits q && (timesGood clock q && (hasNumber q && not (miSame own (q .mi))))
 
 unfoldable pub peersGood : Mi → ℕ → List Peer → Bool
 peersGood own clock [] = true

@@ -36,8 +36,7 @@ use Rattle.call_receive.specs.Receive.{tableFacts, receiveFacts, receivedOf}
 use Rattle.call_accept.specs.Accept.{heardOf, admitted, updatedBy, acceptedBy}
 use Rattle.call_send.specs.Message.{keyUseOf, serverFlag, handsOut, senderOf, sakOf, messageOf}
 use Rattle.call_send.specs.Send.{frameAt, sendFacts, sentAt, sentOf, leftBy}
-use Rattle.image_layout.specs.Layout.{headOf, entryOf, bodies, laidOf}
-use Rattle.image_layout.specs.Layout as layout
+use Rattle.image_layout.specs.Layout.{contentsHead, contentsEntry, contentsEntries, bodies, laidOf}
 use Rattle.image_own.specs.Own.{namedOctets, timesOctets, keptOctets, ownOctets}
 use Rattle.image_peer.specs.Peer.{peersOctets}
 use Rattle.image.specs.Image.{ownPart, peersPart, keysPart, imageOf}
@@ -147,8 +146,8 @@ unfolding created createdOf fresh emptyParticipant noSlot emptyTable beAt beOf w
     headerOctets fixedOctets cknOctets basicOctets listSet listOctets bodyOctets frameOf serverOf electedSelf agedTo expired ofMember keyUseOf
     serverFlag handsOut senderOf sakOf messageOf frameAt sendFacts sentAt sentOf leftBy sameAt fact6 holds placesWith lenAt listLen badBody badShape
     badHead badSet extentOf entryAt entriesFrom listAt entriesIn walkGo walkFrom walkOf heldIn updated replaced enteredAt pushed frameFacts keyedOf
-    isRecent namedIn provesIn heardOf admitted tableFacts receiveFacts updatedBy acceptedBy receivedOf ticked headOf entryOf
-    layout.entriesFrom bodies laidOf namedOctets timesOctets keptOctets ownOctets peersOctets ownPart peersPart keysPart imageOf
+    isRecent namedIn provesIn heardOf admitted tableFacts receiveFacts updatedBy acceptedBy receivedOf ticked contentsHead contentsEntry
+    contentsEntries bodies laidOf namedOctets timesOctets keptOctets ownOctets peersOctets ownPart peersPart keysPart imageOf
 others-right = refl
 
 pub all-cases : Right bench

@@ -60,11 +60,11 @@ abbrev pub comes : List Call → Call → Outcome
 comes cs c = ended (answerOf (after case1 cs) c)
 
 -- The peer with MI 22 twelve times is Live; it is Potential.
-abbrev pub isLive : Participant → Bool
-isLive p = liveFor (heldIn (twelve 0x22) (p .table))
+abbrev pub othersLive : Participant → Bool
+othersLive p = liveFor (heldIn (twelve 0x22) (p .table))
 
 abbrev pub live : List Call → Outcome
-live cs = yes-no (isLive (after case1 cs))
+live cs = yes-no (othersLive (after case1 cs))
 
 abbrev pub potential : List Call → Outcome
 potential cs = yes-no (potentialFor (heldIn (twelve 0x22) (after case1 cs .table)))

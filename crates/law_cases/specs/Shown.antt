@@ -11,7 +11,7 @@ use Rattle.table_counts.specs.Counts.{liveCount, potentialCount}
 use Rattle.table_election.specs.Elect.{elected}
 use Rattle.call_standing.specs.Standing.{serverOf}
 use Rattle.call_creation.specs.Create.{fresh, emptyParticipant, createdOf}
-use Rattle.image_layout.specs.Layout.{headOf, entryOf, entriesFrom, bodies, laidOf, kindAt, recordsAt, offsetAt, laidFrom, laidOut}
+use Rattle.image_layout.specs.Layout.{contentsHead, contentsEntry, contentsEntries, bodies, laidOf, entryKind, recordsAt, offsetAt, laidFrom, laidOut}
 use Rattle.image_own.specs.Own.{namedOctets, timesOctets, keptOctets, ownOctets, ownAt, ownClean}
 use Rattle.image_peer.specs.Peer.{peersOctets, peersAt, peersClean}
 use Rattle.image_key.specs.Key.{slotAt, slotClean}
@@ -35,8 +35,8 @@ abbrev pub shownCases : List Row
 shownCases = row 1 (octets (ascii "sent 0 live 0 potential 0 server none key none\n")) (printed (shownOf (imageOf first))) ∷ []
 
 pub shownCases-right : Right shownCases
-unfolding created createdOf fresh emptyParticipant noSlot emptyTable beAt beOf partOf miAt miOctets headOf entryOf entriesFrom bodies laidOf namedOctets
-    timesOctets keptOctets ownOctets peersOctets ownPart peersPart keysPart imageOf kindAt recordsAt offsetAt laidFrom laidOut ownAt ownClean
+unfolding created createdOf fresh emptyParticipant noSlot emptyTable beAt beOf partOf miAt miOctets contentsHead contentsEntry contentsEntries bodies laidOf namedOctets
+    timesOctets keptOctets ownOctets peersOctets ownPart peersPart keysPart imageOf entryKind recordsAt offsetAt laidFrom laidOut ownAt ownClean
     peersAt peersClean slotAt slotClean peerRules ofMember isKey unusedZero rules numbersGood clean toldBy wellFormed readOf
     liveCount potentialCount elected serverOf decimalOf serverText keyText statusText lineOf endedOf shownOf
 shownCases-right = each shownCases (refl, tt)

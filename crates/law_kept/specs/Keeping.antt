@@ -17,7 +17,7 @@ use Rattle.table.specs.Table.{blankPeer, entries, emptyTable}
 use Rattle.table_expiry.specs.Expiry.{freshAt, freshPeer, lapsed, unproven, agedPeer, agedList, steadyIn, expired}
 use Rattle.table_lookup.specs.Look.{heldIn, staleFor, noRoomFor}
 use Rattle.table_enter.specs.Enter.{updated, enterList, entered}
-use Rattle.table_expiry.specs.Kept.{unprovenZero, timely, freshProof, ordered, absent, distinct, numbered, peerRules, Kept}
+use Rattle.table_expiry.specs.Kept.{unprovenZero, timely, freshProof, ordered, absent, distinct, hasNumber, peerRules, Kept}
 use Rattle.law_lists.specs.Laws.{by-cases, clash, both, first-of, second-of}
 use Rattle.law_kept.specs.Same.{same-eq, same-sym}
 use Rattle.table_expiry.proofs.Rules.{together, kept-rules}
@@ -74,8 +74,8 @@ distinct-aged time (p ∷ l) e =
 
 -- ---- numbers, times and proofs over expiry
 
-pub numbered-aged : (time : ℕ) (l : List Peer) → every numbered l ≡ true → every numbered (agedList time l) ≡ true
-numbered-aged time l e = every-kept numbered time (λ p. refl) l e
+pub numbered-aged : (time : ℕ) (l : List Peer) → every hasNumber l ≡ true → every hasNumber (agedList time l) ≡ true
+numbered-aged time l e = every-kept hasNumber time (λ p. refl) l e
 
 pub timely-aged : (clock time : ℕ) (l : List Peer) → clock ≤ time → every (timely clock) l ≡ true → every (timely time) (agedList time l) ≡ true
 timely-aged clock time l h e = every-aged (timely clock) (timely time) time (λ p a t. one p t) l e
@@ -132,9 +132,9 @@ module _ (h : Heard) (proves : Bool) (time : ℕ) where
       (λ b. rw b (both _ _ (ap (λ (m : Mi). absent m l) (same-eq (h .mi) (p .mi) b) ∙ a) r))
       (λ b. rw b (both _ _ (absent-entered (p .mi) l (same-sym (h .mi) (p .mi) b) a) (distinct-entered l r)))
 
-  pub numbered-entered : (l : List Peer) → eqb (h .mn) 0 ≡ false → every numbered l ≡ true → every numbered (enterList h proves time l) ≡ true
+  pub numbered-entered : (l : List Peer) → eqb (h .mn) 0 ≡ false → every hasNumber l ≡ true → every hasNumber (enterList h proves time l) ≡ true
   unfolding updated
-  numbered-entered l z e = every-entered h proves time numbered numbered (λ p t. t) (rw z) (λ p t. rw z) l e
+  numbered-entered l z e = every-entered h proves time hasNumber hasNumber (λ p t. t) (rw z) (λ p t. rw z) l e
 
   pub timely-entered : (l : List Peer) → every (timely time) l ≡ true → every (timely time) (enterList h proves time l) ≡ true
   unfolding updated

@@ -28,7 +28,7 @@ use Rattle.frame_walk.specs.List.{entriesFrom, listAt}
 use Rattle.frame_walk.specs.Walk.{walkFrom, walkOf}
 use Rattle.frame_walk.specs.declared.Walked.the-variants.{End}
 use Rattle.frame_walk.proofs.Laws.{walk-end}
-use Rattle.frame_writer.specs.Frame.{headerOctets, cknOf, cknOctets, fixedOctets, basicOctets, setHeader, listOctets, listSet, keyFlags, keyOctets, useSet, usePart, sakSet, sakPart, bodyOctets, frameOf}
+use Rattle.frame_writer.specs.Frame.{headerOctets, cknOf, cknOctets, fixedOctets, basicOctets, setHeader, listOctets, listSet, useFlags, useOctets, useSet, usePart, sakSet, sakPart, bodyOctets, frameOf}
 use Rattle.frame_writer.specs.declared.Mkpdu.{Mkpdu}
 use Rattle.frame_writer.proofs.Laws.{length-header, length-fixed, length-basic, length-cknOf, length-list, length-listSet, length-key, length-body, length-frame, entriesOf-le, body-le, body-four}
 use Rattle.law_round.specs.Ranged.{Ranged, basicWritten, livePlace, potentialPlace, usePlace, sakPlace, spotIf, listSpot, placesWritten, sakWritten, GoodEntries}
@@ -213,8 +213,8 @@ module _ (m : Mkpdu) (rest : List ℕ) (r : Ranged m) where
       let k = m .sak in
       list-walk 1 live (livePlace m) noPlaces with1 (omega arith) refl refl (entriesOf-le (m .live)) refl refl (λ x n. refl) live-stands (omega arith)
       ∙ list-walk 2 potential (potentialPlace m) (with1 a) (with2 a) (omega arith) refl refl (entriesOf-le (m .potential)) refl refl (λ x n. refl) potential-stands (omega arith)
-      ∙ walk-part f 3 (usedOctet (record { latest = keyFlags (u .latest); old = keyFlags (u .old) })) 40 (keyOctets (u .latest) ++ keyOctets (u .old)) (usePlace m) (icvPlace b) (with2 a c) (with3 a c)
-      (omega arith) (lit< tt) refl (length-append (keyOctets (u .latest)) (keyOctets (u .old)) ∙ omega (arith, length-key (u .latest), length-key (u .old))) stop-fits refl refl refl (λ x n. refl)
+      ∙ walk-part f 3 (usedOctet (record { latest = useFlags (u .latest); old = useFlags (u .old) })) 40 (useOctets (u .latest) ++ useOctets (u .old)) (usePlace m) (icvPlace b) (with2 a c) (with3 a c)
+      (omega arith) (lit< tt) refl (length-append (useOctets (u .latest)) (useOctets (u .old)) ∙ omega (arith, length-key (u .latest), length-key (u .old))) stop-fits refl refl refl (λ x n. refl)
       (m .used) use-stand (omega arith) (λ _. refl)
       ∙ walk-part f 4 (sakOctet (record { an = k .an; confidentiality = k .confidentiality })) 28 (beOf 4 (k .kn) ++ k .wrapped) (sakPlace m) (icvPlace b) (with3 a c d) (with4 a c d)
       (omega arith) (lit< tt) refl (length-append (beOf 4 (k .kn)) (k .wrapped) ∙ omega (arith, length-beOf 4 (k .kn), r .sak .wrapped)) stop-fits refl refl refl (λ x n. refl)

@@ -34,7 +34,7 @@ use Rattle.frame_sets.specs.declared.kinds.SakUse.{SakUse}
 use Rattle.frame_walk.specs.List.{entriesFrom}
 use Rattle.frame_walk.specs.Walk.{walkFrom}
 use Rattle.frame_walk.proofs.Laws.{walk-next}
-use Rattle.frame_writer.specs.Frame.{setHeader, listOctets, keyFlags, keyOctets, useSet, sakSet}
+use Rattle.frame_writer.specs.Frame.{setHeader, listOctets, useFlags, useOctets, useSet, sakSet}
 use Rattle.frame_writer.specs.declared.Sak.{Sak}
 use Rattle.frame_writer.proofs.Laws.{length-key}
 use Rattle.law_round.specs.Ranged.{GoodEntries, GoodKey, GoodSak, sakWritten, spotIf}
@@ -95,8 +95,8 @@ entries-stand f (e ∷ es) at g s =
 
 -- ---- SAK Use
 
-pub key-stands : (f : List ℕ) (k : KeyUse) (at : ℕ) → GoodKey k → Stands f (keyOctets k) at → keyUseAt f at (keyFlags k) ≡ k
-unfolding keyUseAt keyOctets
+pub key-stands : (f : List ℕ) (k : KeyUse) (at : ℕ) → GoodKey k → Stands f (useOctets k) at → keyUseAt f at (useFlags k) ≡ k
+unfolding keyUseAt useOctets
 key-stands f k at g s =
     let after = beOf 4 (k .kn) ++ beOf 4 (k .pn) in
     let m = mi-stands f (k .mi) at (g .mi) (first f (miOctets (k .mi)) after at s) in
@@ -109,13 +109,13 @@ key-stands f k at g s =
 pub use-stands : (f : List ℕ) (u : SakUse) (at : ℕ) → GoodKey (u .latest) → GoodKey (u .old) → Stands f (useSet u) at → sakUseAt f at ≡ u
 unfolding sakUseAt useSet
 use-stands f u at gl go s =
-    let flags : Used = record { latest = keyFlags (u .latest); old = keyFlags (u .old) } in
-    let body = keyOctets (u .latest) ++ keyOctets (u .old) in
+    let flags : Used = record { latest = useFlags (u .latest); old = useFlags (u .old) } in
+    let body = useOctets (u .latest) ++ useOctets (u .old) in
     let own : usedOf (getD f (at + 1) 0) ≡ flags = ap usedOf (own-at f 3 (usedOctet flags) 40 body at s) ∙ used-round flags (gl .an) (go .an) in
     let b : Stands f body (at + 4) = body-at f 3 (usedOctet flags) 40 body at s in
-    let l = ap (λ (v : Used). keyUseAt f (at + 4) (v .latest)) own ∙ key-stands f (u .latest) (at + 4) gl (first f (keyOctets (u .latest)) (keyOctets (u .old)) (at + 4) b) in
-    let s20 : Stands f (keyOctets (u .old)) (at + 4 + 20) = second f (keyOctets (u .latest)) (keyOctets (u .old)) (at + 4) 20 (length-key (u .latest)) b in
-    let o = ap (λ (v : Used). keyUseAt f (at + 24) (v .old)) own ∙ key-stands f (u .old) (at + 24) go (moved f (keyOctets (u .old)) (at + 4 + 20) (at + 24) (omega arith) s20) in
+    let l = ap (λ (v : Used). keyUseAt f (at + 4) (v .latest)) own ∙ key-stands f (u .latest) (at + 4) gl (first f (useOctets (u .latest)) (useOctets (u .old)) (at + 4) b) in
+    let s20 : Stands f (useOctets (u .old)) (at + 4 + 20) = second f (useOctets (u .latest)) (useOctets (u .old)) (at + 4) 20 (length-key (u .latest)) b in
+    let o = ap (λ (v : Used). keyUseAt f (at + 24) (v .old)) own ∙ key-stands f (u .old) (at + 24) go (moved f (useOctets (u .old)) (at + 4 + 20) (at + 24) (omega arith) s20) in
     λ i. record { latest = l i; old = o i }
 
 -- ---- Distributed SAK

@@ -1,4 +1,4 @@
--- The line has room for every text: nothing is cut off.
+-- The line has lineRoom for every text: nothing is cut off.
 use Prim.Native.Nat.{ℕ, _+_, _^_, _≤_, _<_}
 use mathlib.Core.Path.{_≡_, ap, sym, _∙_}
 use mathlib.Core.List.{List, _++_}
@@ -7,7 +7,7 @@ use native.Mathlib.Nat.{zero-add}
 use borrow.Author.Tests.{lt-ltb}
 use lib.Seq.{sets}
 use Rattle.base_octets.proofs.Laws.{sets-append}
-use Rattle.page.specs.Text.{ascii, room, lineOf, endedOf}
+use Rattle.page.specs.Text.{ascii, lineRoom, lineOf, endedOf}
 use native.Mathlib.Omega.{arith}
 use lib.ListN.{length, length-append, replicate, set}
 use Rattle.table_counts.specs.Counts.{liveCount, potentialCount}
@@ -44,7 +44,7 @@ pub line-whole : (p : Participant) → p .mn < 2 ^ 32 → p .latest .key .kn < 2
 unfolding endedOf lineOf
 line-whole p mn kn =
     let t = statusText p in
-    let z : List ℕ = replicate room 0 in
+    let z : List ℕ = replicate lineRoom 0 in
     let short : length t < 96 = omega (arith, status-le p mn kn) in
     let len : length t + 1 ≡ length (t ++ ascii "\n") = sym (length-append t (ascii "\n")) in
     let text : set (sets z 0 t) (length t) 10 ≡ sets z 0 (t ++ ascii "\n") =

@@ -28,16 +28,16 @@ decimalOf n = digits 10 (placesUpTo 20 n) n
 unfoldable pub hexOf : Mi → List ℕ
 hexOf m = digits 16 16 (m .hi) ++ digits 16 8 (m .lo)
 
-abbrev pub room : ℕ
-room = 96
+abbrev pub lineRoom : ℕ
+lineRoom = 96
 
 -- A text in a line, zeros past it.
 unfoldable pub lineOf : List ℕ → Line
-lineOf text = record { text = sets (replicate room 0) 0 text; len = length text }
+lineOf text = record { text = sets (replicate lineRoom 0) 0 text; len = length text }
 
--- A line with its end, where there is room for it.
+-- A line with its end, where there is lineRoom for it.
 unfoldable pub endedOf : Line → Line
-endedOf l = cond (ltb (l .len) room) (record { text = set (l .text) (l .len) 10; len = l .len + 1 }) l
+endedOf l = cond (ltb (l .len) lineRoom) (record { text = set (l .text) (l .len) 10; len = l .len + 1 }) l
 
 -- "a refusal prints `refused 16`"
 unfoldable pub refusedText : ℕ → List ℕ

@@ -10,7 +10,7 @@ use Rattle.law_lists.specs.Lists.{every}
 use Rattle.law_lists.specs.Laws.{both, first-of, second-of}
 use Rattle.table.specs.Table.{entries}
 use Rattle.table_expiry.specs.Expiry.{freshPeer}
-use Rattle.table_expiry.specs.Kept.{unprovenZero, timely, freshProof, ordered, distinct, absent, numbered, peerRules, Kept}
+use Rattle.table_expiry.specs.Kept.{unprovenZero, timely, freshProof, ordered, distinct, absent, hasNumber, peerRules, Kept}
 
 pub record PeerRules (own : Mi) (clock : ℕ) (l : List Peer) : Type 0 where
   pub zeros : every unprovenZero l ≡ true
@@ -20,7 +20,7 @@ pub record PeerRules (own : Mi) (clock : ℕ) (l : List Peer) : Type 0 where
   pub order : every ordered l ≡ true
   pub apart : distinct l ≡ true
   pub others : absent own l ≡ true
-  pub numbers : every numbered l ≡ true
+  pub numbers : every hasNumber l ≡ true
 
 module _ (own : Mi) (clock : ℕ) (l : List Peer) where
   pub by-name : peerRules own clock l ≡ true → PeerRules own clock l

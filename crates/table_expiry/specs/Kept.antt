@@ -42,8 +42,8 @@ distinct [] = true
 distinct (p ∷ ps) = absent (p .mi) ps && distinct ps
 
 -- "MN not 0"
-abbrev pub numbered : Peer → Bool
-numbered p = not (eqb (p .mn) 0)
+abbrev pub hasNumber : Peer → Bool
+hasNumber p = not (eqb (p .mn) 0)
 
 -- All of them, each over the whole list; "not ours": ours is the MI `own`.
 unfoldable pub peerRules : Mi → ℕ → List Peer → Bool
@@ -55,7 +55,7 @@ peerRules own clock l =
     && (every ordered l
     && (distinct l
     && (absent own l
-    && every numbered l))))))
+    && every hasNumber l))))))
 
 -- Slots past the count are blank, and the count is at most 16.
 abbrev pub Tidy : Table → Type 0

@@ -1,6 +1,6 @@
 use Rattle.image.specs.Image.{contentsFor}
 use Rattle.image_layout.proofs.Laws.{length-head, length-entry}
-use Rattle.image_layout.specs.Layout.{headOf, entryOf}
+use Rattle.image_layout.specs.Layout.{contentsHead, contentsEntry}
 use Rattle.base_octets.proofs.Stores.{sets-on}
 use denote.Ref.{now}
 use mathlib.Core.List.{_++_}
@@ -41,9 +41,9 @@ returns : tie.Need-returns
 unfolding contentsFor
 returns c =
     let a = c .before .before .before .before .before .before .before .before .before .before .before .before .before .before .before .before .before .args in
-    sets-on (now (a .out)) (c .before .before .before .before .before .before .before .before .before .before .before .before .before .before .put-head .last .0) (c .before .before .put-entry3 .last .0) 0 4 (headOf 3) (entryOf 1 1 28 ++ (entryOf 2 (a .n) 144 ++ entryOf 3 (a .k) (144 + a .n * 44))) (omega (arith, length-head 3)) (c .before .before .before .before .before .before .before .before .before .before .before .before .before .before .put-head .ensures)
-    (sets-on (c .before .before .before .before .before .before .before .before .before .before .before .before .before .before .put-head .last .0) (c .before .before .before .before .before .before .before .before .before .before .put-entry .last .0) (c .before .before .put-entry3 .last .0) 4 12 (entryOf 1 1 28) (entryOf 2 (a .n) 144 ++ entryOf 3 (a .k) (144 + a .n * 44)) (omega (arith, length-entry 1 1 28)) (c .before .before .before .before .before .before .before .before .before .before .put-entry .ensures)
-    (sets-on (c .before .before .before .before .before .before .before .before .before .before .put-entry .last .0) (c .before .before .before .before .before .before .put-entry2 .last .0) (c .before .before .put-entry3 .last .0) 12 20 (entryOf 2 (a .n) 144) (entryOf 3 (a .k) (144 + a .n * 44)) (omega (arith, length-entry 2 (a .n) 144)) (c .before .before .before .before .before .before .put-entry2 .ensures) (c .before .before .put-entry3 .ensures)))
+    sets-on (now (a .out)) (c .before .before .before .before .before .before .before .before .before .before .before .before .before .before .put-head .last .0) (c .before .before .put-entry3 .last .0) 0 4 (contentsHead 3) (contentsEntry 1 1 28 ++ (contentsEntry 2 (a .n) 144 ++ contentsEntry 3 (a .k) (144 + a .n * 44))) (omega (arith, length-head 3)) (c .before .before .before .before .before .before .before .before .before .before .before .before .before .before .put-head .ensures)
+    (sets-on (c .before .before .before .before .before .before .before .before .before .before .before .before .before .before .put-head .last .0) (c .before .before .before .before .before .before .before .before .before .before .put-entry .last .0) (c .before .before .put-entry3 .last .0) 4 12 (contentsEntry 1 1 28) (contentsEntry 2 (a .n) 144 ++ contentsEntry 3 (a .k) (144 + a .n * 44)) (omega (arith, length-entry 1 1 28)) (c .before .before .before .before .before .before .before .before .before .before .put-entry .ensures)
+    (sets-on (c .before .before .before .before .before .before .before .before .before .before .put-entry .last .0) (c .before .before .before .before .before .before .put-entry2 .last .0) (c .before .before .put-entry3 .last .0) 12 20 (contentsEntry 2 (a .n) 144) (contentsEntry 3 (a .k) (144 + a .n * 44)) (omega (arith, length-entry 2 (a .n) 144)) (c .before .before .before .before .before .before .put-entry2 .ensures) (c .before .before .put-entry3 .ensures)))
 
 pub put-contents-spec : {M : Type 1} → statement M
 put-contents-spec =

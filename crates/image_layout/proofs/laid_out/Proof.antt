@@ -7,7 +7,7 @@ use borrow.Author.Tests.{eq-eqb, ne-eqb}
 use borrow.Author.Needs.{needs}
 use Rattle.base_octets.proofs.Laws.{beAt-lt}
 use Rattle.base_octets.specs.Number.{beAt}
-use Rattle.image_layout.specs.Layout.{place, kindAt, recordsAt, offsetAt, laidFrom, laidOut}
+use Rattle.image_layout.specs.Layout.{place, entryKind, recordsAt, offsetAt, laidFrom, laidOut}
 use Rattle.image_layout.proofs.Laws.{body-below, laid-counted, laid-kind, laid-offset, laid-turn, laid-end}
 use Rattle.image_layout.proofs.laid_out.Statement.{statement}
 use Rattle.image_layout.proofs.laid_out.Tie as tie
@@ -70,7 +70,7 @@ add-if3 : tie.Need-add-if3 Inv-loop μ-loop
 add-if3 c = search needs
 
 returns-3 : tie.Need-returns-3 Inv-loop μ-loop
-unfolding kindAt
+unfolding entryKind
 returns-3 c = let a = c .before .before .before .before .before .before .before .before .before .before .args in
     let s = now (a .s) in
     let z = now (a .sizes) in
@@ -87,7 +87,7 @@ cast-if4 : tie.Need-cast-if4 Inv-loop μ-loop
 cast-if4 c = search needs
 
 returns-4 : tie.Need-returns-4 Inv-loop μ-loop
-unfolding kindAt offsetAt
+unfolding entryKind offsetAt
 returns-4 c = let a = c .before .before .before .before .before .before .before .before .before .before .before .before .args in
     let s = now (a .s) in
     let z = now (a .sizes) in
@@ -129,7 +129,7 @@ loop-less : tie.Need-loop-less Inv-loop μ-loop
 loop-less c = search needs
 
 loop-again : tie.Need-loop-again Inv-loop μ-loop
-unfolding kindAt recordsAt offsetAt
+unfolding entryKind recordsAt offsetAt
 loop-again c = let a = c .before .before .before .before .before .before .before .before .before .before .before .before .before .before .args in
     let s = now (a .s) in
     let z = now (a .sizes) in

@@ -4,7 +4,7 @@ use native.Mathlib.Nat.{zero-add}
 use native.Mathlib.Omega.{arith}
 use lib.ListN.{length, replicate}
 use borrow.Author.Needs.{needs}
-use Rattle.page.specs.Text.{ascii, room, lineOf}
+use Rattle.page.specs.Text.{ascii, lineRoom, lineOf}
 use Rattle.page.specs.Status.{statusText}
 use Rattle.page.proofs.Stores.{stored, number-end, server-end}
 use Rattle.page.proofs.status.Statement.{statement}
@@ -144,7 +144,7 @@ returns c =
     let asked = sent .before .before .before .before .before .before in
     let p = asked .before .before .before .args .p in
     let s =
-    stored (replicate room 0) p _ _ _
+    stored (replicate lineRoom 0) p _ _ _
     (asked .before .live-count .ensures)
     (asked .potential-count .ensures)
     (server .before .server .ensures)

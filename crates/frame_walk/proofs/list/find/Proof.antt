@@ -6,7 +6,7 @@ use denote.Ref.{now}
 use borrow.Author.Tests.{lt-ltb, le-ltb}
 use Rattle.base_mi.specs.Mi.{miSame}
 use Rattle.base_mi.specs.declared.entry.Entry.{Entry}
-use Rattle.frame_walk.specs.List.{entriesFrom, listAt, entriesIn, seek, foundIn}
+use Rattle.frame_walk.specs.List.{entriesFrom, listAt, entriesIn, seekEntry, foundIn}
 use Rattle.frame_walk.specs.declared.list.Found.the-variants.{At}
 use Rattle.frame_walk.proofs.Lists.{seek-hit, seek-miss, seek-end}
 use borrow.Author.Needs.{needs}
@@ -15,7 +15,7 @@ use Rattle.frame_walk.proofs.list.find.Statement.{statement}
 use Rattle.frame_walk.proofs.list.find.Tie as tie
 
 abbrev Inv-loop : tie.InvT-loop
-Inv-loop frame place len from m n i₀ i = seek m i (drop i (entriesFrom n frame (place + 4))) ≡ seek m i₀ (drop i₀ (entriesFrom n frame (place + 4)))
+Inv-loop frame place len from m n i₀ i = seekEntry m i (drop i (entriesFrom n frame (place + 4))) ≡ seekEntry m i₀ (drop i₀ (entriesFrom n frame (place + 4)))
 
 abbrev μ-loop : tie.MeasureT-loop
 μ-loop frame place len from m n i₀ i = n - i

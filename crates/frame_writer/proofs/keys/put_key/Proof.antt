@@ -5,7 +5,7 @@ use Rattle.base_mi.specs.Mi.{miOctets}
 use Rattle.base_octets.proofs.Laws.{length-beOf}
 use Rattle.base_mi.proofs.Laws.{length-mi}
 use Rattle.base_octets.proofs.Stores.{sets-three}
-use Rattle.frame_writer.specs.Frame.{keyOctets}
+use Rattle.frame_writer.specs.Frame.{useOctets}
 use Rattle.frame_writer.proofs.keys.put_key.Statement.{statement}
 use Rattle.frame_writer.proofs.keys.put_key.Tie as tie
 
@@ -28,7 +28,7 @@ same-length : tie.Need-same-length
 same-length c = search needs
 
 returns : tie.Need-returns
-unfolding keyOctets
+unfolding useOctets
 returns c =
     let k = c .before .before .before .before .before .before .before .before .before .before .before .before .before .before .args .k in
     sets-three _ _ _ _ (c .before .before .before .before .before .before .before .before .before .before .before .before .before .before .args .at) 12 4 (miOctets (k .mi)) (beOf 4 (k .kn)) (beOf 4 (k .pn)) (length-mi (k .mi)) (length-beOf 4 (k .kn))

@@ -8,7 +8,7 @@ use denote.Ref.{now}
 use borrow.Author.Needs.{needs}
 use Rattle.base_packed.specs.Used.{usedOctet}
 use Rattle.base_packed.specs.declared.used.KeyFlags.{KeyFlags}
-use Rattle.frame_writer.specs.Frame.{keyFlags, keyOctets, setHeader, useSet}
+use Rattle.frame_writer.specs.Frame.{useFlags, useOctets, setHeader, useSet}
 use Rattle.base_octets.proofs.Stores.{sets-three}
 use Rattle.frame_writer.proofs.Laws.{no-part, some-part, length-key, length-use}
 use Rattle.frame_writer.proofs.keys.put_use.Statement.{statement}
@@ -59,12 +59,12 @@ returns-2 c =
     let l = now (a .out) in
     let u = a .u in
     let n = some-part (a .used) (useSet u) (tested .if1 .left) in
-    let f = usedOctet (record { latest = keyFlags (u .latest); old = keyFlags (u .old) }) in
+    let f = usedOctet (record { latest = useFlags (u .latest); old = useFlags (u .old) }) in
     let e : packed .pack .result ≡ f =
     packed .pack .ensures
     ∙ ap₂ (λ (x y : KeyFlags). usedOctet (record { latest = x; old = y })) (packed .before .before .key-flags .ensures) (packed .before .key-flags2 .ensures) in
     let s : c .before .before .put-key2 .last .0 ≡ sets l (a .at) (useSet u) =
-    sets-three l _ _ _ (a .at) 4 20 (setHeader 3 f 40) (keyOctets (u .latest)) (keyOctets (u .old)) refl (length-key (u .latest))
+    sets-three l _ _ _ (a .at) 4 20 (setHeader 3 f 40) (useOctets (u .latest)) (useOctets (u .old)) refl (length-key (u .latest))
     (c .before .before .before .before .before .before .before .before .before .before .put-set-header .ensures ∙ ap (λ (x : ℕ). sets l (a .at) (setHeader 3 x 40)) e)
     (c .before .before .before .before .before .before .put-key .ensures)
     (c .before .before .put-key2 .ensures) in

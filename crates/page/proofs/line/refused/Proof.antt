@@ -1,5 +1,5 @@
 use Rattle.page.proofs.Stores.{stored-two, number-end}
-use Rattle.page.specs.Text.{ascii, decimalOf, room, lineOf, refusedText}
+use Rattle.page.specs.Text.{ascii, decimalOf, lineRoom, lineOf, refusedText}
 use lib.ListN.{length, replicate}
 use native.Mathlib.Nat.{zero-add}
 use mathlib.Core.List.{_++_}
@@ -29,7 +29,7 @@ put-words-requires c κs = omega (arith, number-end _ _ (ascii "refused ") (c .b
 
 returns : tie.Need-returns
 unfolding lineOf refusedText
-returns c = let s = stored-two (replicate room 0) 0 (ascii "refused " ++ decimalOf (c .before .before .before .before .before .before .before .before .args .number)) (ascii "\n") (c .before .before .before .before .before .put-number .ensures) (c .before .put-words .ensures) in
+returns c = let s = stored-two (replicate lineRoom 0) 0 (ascii "refused " ++ decimalOf (c .before .before .before .before .before .before .before .before .args .number)) (ascii "\n") (c .before .before .before .before .before .put-number .ensures) (c .before .put-words .ensures) in
     let len = s .0 ∙ zero-add (length (refusedText (c .before .before .before .before .before .before .before .before .args .number))) in
     λ i. record { text = s .1 i; len = len i }
 

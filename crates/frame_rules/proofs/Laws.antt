@@ -1,39 +1,16 @@
 -- What each rule tells of a type, a length and the room.
 use Prim.Native.Nat.{ℕ, _+_, _≤_, _<_, _-_}
 use mathlib.Core.Path.{_≡_, refl, sym, ap, _∙_}
-use mathlib.Core.Bool.{Bool, true, false, cond, not, _||_, true≢false}
+use mathlib.Core.Bool.{Bool, true, false, cond, not, _||_}
 use mathlib.Core.Logic.{_⊎_, inl, inr}
 use native.Mathlib.Omega.{arith}
 use lib.Dec.{eqb, leb}
 use borrow.Author.Tests.{ne-eqb, eqb-true, leb-true, le-leb, lt-leb}
+use Rattle.law_lists.specs.Laws.{by-cases, or-none, or-true, or-with}
 use Rattle.base_facts.specs.Facts.{paddedOf}
 use Rattle.frame_rules.specs.Rules.{extentOf, fits, unnumbered, allowedOthers, badShape, badBody}
 use Rattle.frame_places.specs.Once.{holds}
 use Rattle.frame_places.specs.declared.Places.{Places}
-
-pub or-false : (a b : Bool) → a || b ≡ false → (a ≡ false) × (b ≡ false)
-or-false false b e = (refl, e)
-or-false true b e = absurd (true≢false e)
-
-pub or-none : (a : Bool) → a || false ≡ a
-or-none true = refl
-or-none false = refl
-
-or-true : (a : Bool) → a || true ≡ true
-or-true true = refl
-or-true false = refl
-
-or-with : (a b c : Bool) → a || (b || c) ≡ (a || b) || c
-or-with true b c = refl
-or-with false b c = refl
-
-pub or-swap : (a b : Bool) → a || b ≡ b || a
-or-swap true b = sym (or-true b)
-or-swap false b = sym (or-none b)
-
-by-cases : {A : Type 0} (b : Bool) → (b ≡ true → A) → (b ≡ false → A) → A
-by-cases true h k = h refl
-by-cases false h k = k refl
 
 -- ---- what a body of type 3 or 4 breaks
 

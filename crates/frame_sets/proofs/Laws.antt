@@ -9,7 +9,8 @@ use lib.Dec.{eqb, ltb}
 use borrow.Author.Tests.{ne-eqb, eqb-true, ltb-false, not-false}
 use Rattle.base_octets.specs.Number.{beAt}
 use Rattle.base_octets.specs.Octets.{Octets}
-use Rattle.frame_rules.proofs.Laws.{or-false, or-none, or-swap, extent-least, fits-room}
+use Rattle.law_lists.specs.Laws.{or-false, or-none, or-swap}
+use Rattle.frame_rules.proofs.Laws.{extent-least, fits-room}
 use Rattle.frame_sets.specs.Kinds.{kindAt, typeOf}
 use Rattle.frame_sets.specs.Set.{lenAt, badSet, setFields, setAnswer, setOf, badHead, headOf, badList}
 use Rattle.frame_rules.specs.Rules.{isList, allowed, extentOf, fits, unnumbered, allowedOthers, badShape, listLen}

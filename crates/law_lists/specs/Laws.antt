@@ -1,7 +1,7 @@
--- Laws of lists: what a loop over the entries has done and has left, what a test picks, and room past a list.
+-- Laws of tests, and of lists: what a loop over the entries has done and has left, what a test picks, and room past a list.
 use Prim.Native.Nat.{ℕ, suc, _+_, _-_, _≤_, _<_, min}
 use mathlib.Core.Path.{_≡_, refl, ap, sym, _∙_}
-use mathlib.Core.Bool.{Bool, true, false, _&&_}
+use mathlib.Core.Bool.{Bool, true, false, _&&_, _||_}
 use mathlib.Core.Logic.{⊎-elim}
 use mathlib.Core.List.{List, [], _∷_, _++_, map, append-assoc, append-nil, List·Memᴰ, List·Memᴰ·head, List·Memᴰ·tail, List·Memᴰ·not-nil, List·Memᴰ·cases-cons}
 use native.Mathlib.Numerals.{add-one}
@@ -33,6 +33,26 @@ first-of false b e = e
 pub second-of : (a b : Bool) → (a && b) ≡ true → b ≡ true
 second-of true b e = e
 second-of false b e = clash e
+
+pub or-false : (a b : Bool) → a || b ≡ false → (a ≡ false) × (b ≡ false)
+or-false false b e = (refl, e)
+or-false true b e = clash (sym e)
+
+pub or-none : (a : Bool) → a || false ≡ a
+or-none true = refl
+or-none false = refl
+
+pub or-true : (a : Bool) → a || true ≡ true
+or-true true = refl
+or-true false = refl
+
+pub or-with : (a b c : Bool) → a || (b || c) ≡ (a || b) || c
+or-with true b c = refl
+or-with false b c = refl
+
+pub or-swap : (a b : Bool) → a || b ≡ b || a
+or-swap true b = sym (or-true b)
+or-swap false b = sym (or-none b)
 
 module _ {ℓ} {A : Type ℓ} where
   -- what a loop that goes through the first n has left

@@ -10,8 +10,7 @@ use Rattle.base_octets.specs.Octets.{Octets}
 use Rattle.base_mi.specs.Mi.{miSame}
 use Rattle.base_mi.specs.declared.Mi.{Mi}
 use Rattle.base_mi.specs.Fitting.{Fitting}
-use Rattle.frame_rules.proofs.Laws.{or-false}
-use Rattle.law_lists.specs.Laws.{by-cases, clash, both, first-of, second-of}
+use Rattle.law_lists.specs.Laws.{by-cases, clash, both, first-of, second-of, or-false}
 use Rattle.law_kept.specs.Same.{same-eq, same-refl, same-sym}
 use Rattle.participant.specs.Call.{agedTo}
 use Rattle.call_creation.specs.Create.{fresh}

@@ -9,8 +9,7 @@ use lib.Seq.{length-sets, sets-eq, drop-at}
 use lib.Dec.{eqb, ltb}
 use borrow.Author.Tests.{le-leb, ltb-false, ne-eqb}
 use Rattle.base_mi.specs.Fitting.{Fitting}
-use Rattle.frame_rules.proofs.Laws.{or-false}
-use Rattle.law_lists.specs.Laws.{both}
+use Rattle.law_lists.specs.Laws.{both, or-false}
 use Rattle.participant.specs.Call.{agedTo}
 use Rattle.call_creation.specs.Create.{badStart, fresh, emptyParticipant}
 use Rattle.participant.specs.Record.{first32}

@@ -7,8 +7,7 @@ use native.Mathlib.Omega.{arith}
 use lib.ListN.{length, drop}
 use lib.Dec.{eqb, ltb}
 use borrow.Author.Tests.{ltb-false, le-ltb, eqb-false}
-use Rattle.frame_rules.proofs.Laws.{or-false}
-use Rattle.law_lists.specs.Laws.{by-cases}
+use Rattle.law_lists.specs.Laws.{by-cases, or-false}
 use Rattle.table.specs.Table.{entries}
 use Rattle.table.specs.declared.Peer.{Peer}
 use Rattle.participant.specs.Call.{agedTo}

@@ -69,6 +69,15 @@ fn read_head(fd: i32) -> Head {
     }
 }
 
+// Whether the input ends here. A read that fails instead is said.
+fn ended(fd: i32) -> bool {
+    let good = input::at_end(fd);
+    if !good {
+        input::failed(b"", b"a read failed");
+    }
+    good
+}
+
 // Reads a record's payload and plays it. A record that the input ends within ends the run.
 fn step(s: State, fd: i32, h: Head, at: Place, space: &mut [u8], out: &mut [u8]) -> Played {
     let n = h.len as usize;
@@ -77,7 +86,7 @@ fn step(s: State, fd: i32, h: Head, at: Place, space: &mut [u8], out: &mut [u8])
     }
     let got = io::read_full(fd, &mut space[..n]);
     if h.got < 3 || got < n {
-        if input::ended(fd) {
+        if ended(fd) {
             shape::cut(at);
         }
         return state::malformed(s, out);
@@ -86,7 +95,7 @@ fn step(s: State, fd: i32, h: Head, at: Place, space: &mut [u8], out: &mut [u8])
 }
 
 fn over(fd: i32, record: u64) {
-    if input::ended(fd) && record == 1 {
+    if ended(fd) && record == 1 {
         input::complain(b"there are no octets to read");
     }
 }

@@ -60,12 +60,3 @@ pub(crate) fn at_end(fd: i32) -> bool {
     let mut one = [0u8; 1];
     libc::read(fd, &mut one) >= 0
 }
-
-// The same, and says so if it failed.
-pub(crate) fn ended(fd: i32) -> bool {
-    let good = at_end(fd);
-    if !good {
-        failed(b"", b"a read failed");
-    }
-    good
-}

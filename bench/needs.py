@@ -1,4 +1,4 @@
-"""What a measurement needs. A line on standard error says what isn't there and what makes it, and the run ends with 2."""
+"""What a measurement needs, and the limits that it is held to. A line on standard error says what isn't there, and the run ends with 2."""
 import os, shutil, sys
 
 ROOT = os.path.dirname(os.path.dirname(os.path.abspath(__file__)))
@@ -16,3 +16,14 @@ def need(programs, tools):
         say(line)
     if lines:
         sys.exit(2)
+
+
+def limits(kind):
+    """The limits of a kind in bench/limits, by name."""
+    found = {}
+    with open(os.path.join(ROOT, "bench", "limits")) as f:
+        for line in f:
+            words = line.split("#")[0].split()
+            if words and words[0] == kind:
+                found[words[1]] = int(words[2])
+    return found

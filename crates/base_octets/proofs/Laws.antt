@@ -105,7 +105,7 @@ sets-set l i (a ∷ vs) j x h =
     let ne : i ≢ j = omega arith in
     sets-set (set l i a) (suc i) vs j x h′ ∙ ap (λ (k : List ℕ). sets k (suc i) vs) (set-comm l i j a x ne)
 
--- the last octet may be stored first: what one turn of `put` does
+-- the last octet may be stored first: what one turn of `put_within` and `put_across` does
 pub put-turn : (l : List ℕ) (at i v : ℕ) → sets l at (beOf (suc i) v) ≡ sets (set l (at + i) (v % 256)) at (beOf i (v / 256))
 unfolding beOf
 put-turn l at i v =
@@ -115,7 +115,7 @@ put-turn l at i v =
     ∙ ap (λ (k : ℕ). set (sets l at (beOf i (v / 256))) (at + k) (v % 256)) n
     ∙ sets-set l at (beOf i (v / 256)) (at + i) (v % 256) h
 
--- the same in the terms of the loop of `put`, which counts down
+-- the same in the terms of their loops, which count down
 pub put-again : (l l′ : List ℕ) (at i v : ℕ) → 0 < i → l′ ≡ set l (at + (i - 1)) (v % 256) → sets l′ at (beOf (i - 1) (v / 256)) ≡ sets l at (beOf i v)
 put-again l l′ at (suc i) v h e =
     let m : suc i - 1 ≡ i = omega arith in

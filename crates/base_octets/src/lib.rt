@@ -99,7 +99,21 @@ pub fn put_octet(out: &mut [u8], at: usize, x: u8)
     }
 }
 
-fn put(out: &mut [u8], at: usize, n: usize, v: u64)
+// Where there is room for all n octets, one test does for them.
+fn put_within(out: &mut [u8], at: usize, n: usize, v: u64)
+    requires { ⌜ (n ≤ 8) × (at + n ≤ length (now out)) ⌝ }
+    ensures { λ _. ⌜ now (out .exit) ≡ sets (now (out .entry)) at (beOf n v) ⌝ }
+{
+    let mut rest = v;
+    let mut i = n;
+    while 0 < i {
+        i -= 1;
+        out[at + i] = (rest % 256) as u8;
+        rest = rest / 256;
+    }
+}
+
+fn put_across(out: &mut [u8], at: usize, n: usize, v: u64)
     requires { ⌜ n ≤ 8 ⌝ }
     ensures { λ _. ⌜ now (out .exit) ≡ sets (now (out .entry)) at (beOf n v) ⌝ }
 {
@@ -113,6 +127,19 @@ fn put(out: &mut [u8], at: usize, n: usize, v: u64)
         put_octet(out, at + i, (rest % 256) as u8);
         rest = rest / 256;
     }
+}
+
+fn put(out: &mut [u8], at: usize, n: usize, v: u64)
+    requires { ⌜ n ≤ 8 ⌝ }
+    ensures { λ _. ⌜ now (out .exit) ≡ sets (now (out .entry)) at (beOf n v) ⌝ }
+{
+    if at < out.len() {
+        if n <= out.len() - at {
+            put_within(out, at, n, v);
+            return;
+        }
+    }
+    put_across(out, at, n, v);
 }
 
 pub fn put_u16(out: &mut [u8], at: usize, v: u16)

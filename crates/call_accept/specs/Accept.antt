@@ -13,11 +13,10 @@ use Rattle.table_enter.specs.declared.Heard.{Heard}
 use Rattle.participant.specs.Record.{setMark, setTable}
 use Rattle.participant.specs.Call.{agedTo}
 use Rattle.participant.specs.declared.Participant.{Participant}
-use Rattle.call_hearing.specs.declared.keys.Keyed.{Keyed}
 use Rattle.call_accept.specs.declared.Answer.the-variants.{Accepted, Refused}
 use Rattle.call_accept.specs.declared.Received.{Received}
 use Rattle.call_hearing.specs.Proof.{provesIn}
-use Rattle.call_hearing.specs.Keys.{keyedOf}
+use Rattle.call_hearing.specs.Keys.{Keyed, keyedOf}
 
 -- "An accepted frame enters its MI .. or updates it: MN, SCI, priority, flags": what the frame says of its sender
 unfoldable pub heardOf : Basic → Heard
@@ -58,7 +57,7 @@ updatedBy p time s b w = admitted (agedTo p time) (heldAt p time b) b (provesIn 
 unfoldable pub acceptedBy : Participant → ℕ → List ℕ → Basic → Places → Keyed
 acceptedBy p time s b w = keyedOf (updatedBy p time s b w) s (b .mi) (w .sak)
 
--- facts 11 and 12, and what the frame makes of the participant where none holds
+-- facts 11 and 12, and what the frame makes of the participant where none holds; fact 10 is asked before
 unfoldable pub settledBy : Participant → ℕ → List ℕ → Basic → Places → Received
 settledBy p time s b w =
     let n = firstOf (heldFacts p time b) in

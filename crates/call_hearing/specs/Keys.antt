@@ -11,11 +11,13 @@ use Rattle.frame_sets.specs.Kinds.{sakIn}
 use Rattle.frame_sets.specs.declared.kinds.SakHeader.{SakHeader}
 use Rattle.frame_places.specs.declared.Spot.{Spot}
 use Rattle.call_standing.specs.Standing.{serverOf}
-use Rattle.participant.specs.Keys.{ofMember, isKey, withKey, withoutKeys}
+use Rattle.participant.specs.Keys.{noSlot, slotOf, ofMember, isKey, withKey, withoutKeys}
 use Rattle.participant.specs.declared.Key.{Key}
+use Rattle.participant.specs.declared.Slot.{Slot}
 use Rattle.participant.specs.declared.Participant.{Participant}
-use Rattle.call_hearing.specs.declared.keys.Keyed.{Keyed}
+use Rattle.call_hearing.specs.declared.keys.Taken.{Taken}
 
+-- the elected one is the peer m
 abbrev pub isPeer : Server → Mi → Bool
 isPeer Nobody m = false
 isPeer Ourselves m = false
@@ -25,8 +27,11 @@ unfoldable pub isServer : Participant → Mi → Bool
 isServer p m = isPeer (serverOf p) m
 
 -- "(MI, KN) is that of either key, or MI is the latest's and KN is lower"
+abbrev pub knownBy : Slot → Slot → Mi → ℕ → Bool
+knownBy latest old m kn = isKey latest m kn || (isKey old m kn || (ofMember latest m && ltb kn (latest .key .kn)))
+
 unfoldable pub isKnown : Participant → Mi → ℕ → Bool
-isKnown p m kn = isKey (p .latest) m kn || (isKey (p .old) m kn || (ofMember (p .latest) m && ltb kn (p .latest .key .kn)))
+isKnown p m kn = knownBy (p .latest) (p .old) m kn
 
 -- "this becomes latest, neither received nor sent with"; its MI is the sender's
 unfoldable pub keyFrom : Mi → SakHeader → Key
@@ -40,6 +45,12 @@ keyFrom m h =
       receive = false;
       transmit = false;
     }
+
+-- What the participant becomes, and the wrapped key's place and length.
+pub record Keyed : Type 0 where
+  pub participant : Participant
+  pub place : ℕ
+  pub len : ℕ
 
 -- "0 and 0 if no key was entered"
 abbrev pub noKeyEntered : Participant → Keyed
@@ -57,3 +68,18 @@ keyedOf p s m sak =
     (cond (eqb (sak .len) 0) (noKeyEntered (withoutKeys p))
     (cond (isKnown p m (sakIn s (sak .place) (sak .len) .kn)) (noKeyEntered p)
     (keyEntered p m (sakIn s (sak .place) (sak .len))))))
+
+-- ---- the same of the two keys by themselves, with who is elected (the law is `keyed-taken`, proofs/Taken)
+
+-- No key entered: the slots as given, "0 and 0".
+abbrev pub noneTaken : Slot → Slot → Taken
+noneTaken latest old = record { latest = latest; old = old; place = 0; len = 0 }
+
+unfoldable pub takenOf : Server → Slot → Slot → List ℕ → Mi → Spot → Taken
+takenOf server latest old s m sak =
+    let h = sakIn s (sak .place) (sak .len) in
+    cond (not (sak .present)) (noneTaken latest old)
+    (cond (not (isPeer server m)) (noneTaken latest old)
+    (cond (eqb (sak .len) 0) (noneTaken noSlot noSlot)
+    (cond (knownBy latest old m (h .kn)) (noneTaken latest old)
+    (record { latest = slotOf (keyFrom m h); old = latest; place = h .place; len = h .len }))))

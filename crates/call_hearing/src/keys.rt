@@ -4,23 +4,25 @@ use frame_places::Spot;
 use frame_sets::kinds;
 use frame_sets::kinds::SakHeader;
 use participant::Key;
-use participant::Participant;
+use participant::Slot;
 use participant::keys;
 use table_election::Server;
 ghost use mathlib.Core.Path.{_≡_};
-ghost use Rattle.call_hearing.specs.Keys.{isServer, isKnown, keyFrom, noKeyEntered, keyedOf};
+ghost use Rattle.call_hearing.specs.Keys.{isPeer, knownBy, keyFrom, noneTaken, takenOf};
 
-// What the participant becomes, and the wrapped key's place and length, 0 and 0 if no key was entered.
-pub struct Keyed {
-    pub participant: Participant,
+// What the two keys on record become, and the wrapped key's place and length, 0 and 0 if no key was entered.
+pub struct Taken {
+    pub latest: Slot,
+    pub old: Slot,
     pub place: usize,
     pub len: usize,
 }
 
-fn is_server(p: Participant, m: Mi) -> bool
-    ensures { λ r. ⌜ r ≡ isServer p m ⌝ }
+// Whether this peer is elected.
+fn is_elected(server: Server, m: Mi) -> bool
+    ensures { λ r. ⌜ r ≡ isPeer server m ⌝ }
 {
-    match call_standing::server(p) {
+    match server {
         Server::Nobody => false,
         Server::Ourselves => false,
         Server::Elected(x) => base_mi::same_mi(x, m),
@@ -28,11 +30,9 @@ fn is_server(p: Participant, m: Mi) -> bool
 }
 
 // Whether (m, kn) is that of either key, or m is the latest's and kn is lower.
-fn is_known(p: Participant, m: Mi, kn: u32) -> bool
-    ensures { λ r. ⌜ r ≡ isKnown p m kn ⌝ }
+fn is_known(latest: Slot, old: Slot, m: Mi, kn: u32) -> bool
+    ensures { λ r. ⌜ r ≡ knownBy latest old m kn ⌝ }
 {
-    let latest = p.latest;
-    let old = p.old;
     if keys::is_key(latest, m, kn) {
         return true;
     }
@@ -60,35 +60,38 @@ fn key_from(m: Mi, h: SakHeader) -> Key
     }
 }
 
-fn none_entered(p: Participant) -> Keyed
-    ensures { λ r. ⌜ r ≡ noKeyEntered p ⌝ }
+fn none_taken(latest: Slot, old: Slot) -> Taken
+    ensures { λ r. ⌜ r ≡ noneTaken latest old ⌝ }
 {
-    Keyed {
-        participant: p,
+    Taken {
+        latest,
+        old,
         place: 0,
         len: 0,
     }
 }
 
-// `m` is the sender, `sak` where its Distributed SAK stands.
-pub fn take_sak(p: Participant, frame: &[u8], m: Mi, sak: Spot) -> Keyed
-    ensures { λ r. ⌜ r ≡ keyedOf p (now (frame .entry)) m sak ⌝ }
+// `server` is who is elected, `m` the sender, `sak` where its Distributed SAK stands.
+pub fn take_sak(server: Server, latest: Slot, old: Slot, frame: &[u8], m: Mi, sak: Spot) -> Taken
+    ensures { λ r. ⌜ r ≡ takenOf server latest old (now (frame .entry)) m sak ⌝ }
 {
     if !sak.present {
-        return none_entered(p);
+        return none_taken(latest, old);
     }
-    if !is_server(p, m) {
-        return none_entered(p);
+    if !is_elected(server, m) {
+        return none_taken(latest, old);
     }
     if sak.len == 0 {
-        return none_entered(keys::without_keys(p));
+        return none_taken(keys::empty(), keys::empty());
     }
     let h = kinds::sak_at(frame, sak.place, sak.len);
-    if is_known(p, m, h.kn) {
-        return none_entered(p);
+    if is_known(latest, old, m, h.kn) {
+        return none_taken(latest, old);
     }
-    Keyed {
-        participant: keys::with_key(p, key_from(m, h)),
+    let key = key_from(m, h);
+    Taken {
+        latest: Slot { held: true, key },
+        old: latest,
         place: h.place,
         len: h.len,
     }

@@ -1,11 +1,12 @@
--- What the answers of the checks tell of facts 2 to 5.
+-- What the answers of the checks tell of facts 2 to 8.
 use Prim.Native.Nat.{ℕ}
-use mathlib.Core.Path.{_≡_, refl}
-use mathlib.Core.Bool.{Bool, true, false}
+use mathlib.Core.Path.{_≡_, refl, sym, ap, _∙_}
+use mathlib.Core.Bool.{Bool, true, false, cond}
 use mathlib.Core.List.{List, [], _∷_}
 use native.Mathlib.Omega.{arith}
 use lib.Dec.{eqb}
 use Rattle.base_facts.specs.Facts.{firstOf}
+use Rattle.base_facts.proofs.Laws.{first-more}
 use Rattle.frame.specs.Basic.{bodyLen, basicLen, fact2, fact3, fact4, fact5, basicAnswer, basicOf}
 use Rattle.frame.specs.declared.Basic.{Basic}
 use Rattle.frame.specs.declared.BasicRead.the-variants as read
@@ -36,3 +37,16 @@ pub basic-bad : (s : List ℕ) (n : ℕ) (more : List (ℕ × Bool)) → basicOf
     → (firstOf ((2, fact2 s) ∷ (3, fact3 s) ∷ (4, fact4 (bodyLen s)) ∷ (5, fact5 (basicLen s) (bodyLen s)) ∷ more) ≡ n) × (eqb n 0 ≡ false)
 unfolding basicOf
 basic-bad s n more e = four-bad (fact2 s) (fact3 s) (fact4 (bodyLen s)) (fact5 (basicLen s) (bodyLen s)) (basicIn s) n more e
+
+-- facts 6 to 8 told by the number of the first that holds, and fact 9 behind them
+module _ (a b c d : Bool) (n : ℕ) (first : n ≡ firstOf ((6, a) ∷ (7, b) ∷ (8, c) ∷ [])) where
+  with-nine : firstOf ((6, a) ∷ (7, b) ∷ (8, c) ∷ (9, d) ∷ []) ≡ cond (eqb n 0) (firstOf ((9, d) ∷ [])) n
+  with-nine =
+      first-more ((6, a) ∷ (7, b) ∷ (8, c) ∷ []) ((9, d) ∷ []) (refl, (refl, (refl, tt)))
+      ∙ ap (λ (k : ℕ). cond (eqb k 0) (firstOf ((9, d) ∷ [])) k) (sym first)
+
+  pub foreign-bad : eqb n 0 ≡ false → firstOf ((6, a) ∷ (7, b) ∷ (8, c) ∷ (9, d) ∷ []) ≡ n
+  foreign-bad e = with-nine ∙ rw e
+
+  pub foreign-good : eqb n 0 ≡ true → firstOf ((6, a) ∷ (7, b) ∷ (8, c) ∷ (9, d) ∷ []) ≡ firstOf ((9, d) ∷ [])
+  foreign-good e = with-nine ∙ rw e

@@ -2,31 +2,17 @@
 use Prim.Native.Nat.{ℕ, _+_, _-_}
 use mathlib.Core.Path.{_≡_, refl, sym, ap, _∙_}
 use mathlib.Core.Bool.{Bool, true, false, cond}
-use mathlib.Core.List.{List, [], _∷_, _++_}
+use mathlib.Core.List.{List}
 use native.Mathlib.Omega.{arith}
 use lib.Dec.{eqb}
 use Rattle.base_facts.specs.Facts.{firstOf}
+use Rattle.base_facts.proofs.Laws.{first-more}
 use Rattle.frame.specs.declared.Basic.{Basic}
 use Rattle.frame_places.specs.declared.Places.{Places}
 use Rattle.participant.specs.declared.Participant.{Participant}
 use Rattle.call_judge.specs.Judge.{basicIn, walkIn, placesIn, frameFacts, judgedOf}
 use Rattle.call_receive.specs.Receive.{tableFacts, receiveFacts}
 use Rattle.call_judge.specs.declared.Judged.the-variants as judged
-
--- ---- the first fact of two lists
-
-abbrev Counted : List (ℕ × Bool) → Type 0
-Counted [] = Unit {0}
-Counted (f ∷ fs) = (eqb (f .0) 0 ≡ false) × Counted fs
-
-first-more : (fs gs : List (ℕ × Bool)) → Counted fs → firstOf (fs ++ gs) ≡ cond (eqb (firstOf fs) 0) (firstOf gs) (firstOf fs)
-first-more [] gs c = refl
-first-more (f ∷ fs) gs c = go (f .1) (first-more fs gs (c .1))
-  where
-    go : (t : Bool) → firstOf (fs ++ gs) ≡ cond (eqb (firstOf fs) 0) (firstOf gs) (firstOf fs)
-        → cond t (f .0) (firstOf (fs ++ gs)) ≡ cond (eqb (cond t (f .0) (firstOf fs)) 0) (firstOf gs) (cond t (f .0) (firstOf fs))
-    go true later = rw (c .0)
-    go false later = later
 
 answer-good : (t : Bool) (n : ℕ) (x b : Basic) (y w : Places) → cond t (judged.Good x y) (judged.Refused n) ≡ judged.Good b w → (t ≡ true) × (x ≡ b) × (y ≡ w)
 answer-good true n x b y w e = (refl, cc, cc)

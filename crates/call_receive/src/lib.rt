@@ -1,14 +1,12 @@
 // Receiving a frame: refusals 1 to 12, and else what an accepted one makes of the participant.
 use base_facts::Check;
-use call_accept::Answer;
 use call_accept::Received;
+use call_hearing::keys;
 use call_hearing::proof;
 use call_judge::Judged;
 use participant::Participant;
 use table::ROOM;
-use table::Table;
 ghost use mathlib.Core.Path.{_≡_};
-ghost use Rattle.participant.specs.Record.{setClock, setMark, setTable};
 ghost use Rattle.call_receive.specs.Receive.{refusalOf, receivedOf};
 
 fn refusal(r: Judged) -> u8
@@ -20,38 +18,7 @@ fn refusal(r: Judged) -> u8
     }
 }
 
-// The table, the clock and the mark anew.
-fn with_table(p: Participant, table: Table, clock: u64, mark: bool) -> Participant
-    ensures { λ r. ⌜ r ≡ setMark mark (setClock clock (setTable table p)) ⌝ }
-{
-    let mi = p.mi;
-    let ckn = p.ckn;
-    let wrapped = p.wrapped;
-    let latest = p.latest;
-    let old = p.old;
-    Participant {
-        mi,
-        mn: p.mn,
-        sci: p.sci,
-        priority: p.priority,
-        capability: p.capability,
-        desired: p.desired,
-        mark,
-        clock,
-        sent: p.sent,
-        kn: p.kn,
-        distributed: p.distributed,
-        size: p.size,
-        ckn,
-        wrapped,
-        table,
-        latest,
-        old,
-    }
-}
-
-// The table is copied once, gone through once and changed in one place; one in which something expires is left to `call_accept::late`.
-// What is passed on whole (`aside`, `s`) is a copy that only that way has: the other ways then need none (docs/COST.md).
+// One local table, gone through once, changed in its place and put into the participant last (docs/COST.md).
 pub fn receive(p: Participant, time: u64, verdict: bool, frame: &[u8]) -> Received
     ensures { λ r. ⌜ r ≡ receivedOf p time verdict (now (frame .entry)) ⌝ }
 {
@@ -67,21 +34,23 @@ pub fn receive(p: Participant, time: u64, verdict: bool, frame: &[u8]) -> Receiv
     let mut t = p.table;
     let n = base_facts::at_most(t.count, ROOM);
     let from = table_expiry::oldest(time);
+    let mut expires = false;
     let mut at = n;
     let mut i: usize = 0;
     while i < n {
         let e = t.peers[i];
-        if !table_expiry::still_from(e, from) {
-            let aside = p;
-            let r = call_accept::late(aside, time, frame, b, w);
-            return r;
-        }
+        expires = base_facts::either(expires, !table_expiry::still_from(e, from));
         at = table_lookup::first(at, n, i, m, e);
         i += 1;
     }
+    t.count = n;
     let k = base_facts::at_most(at, 15);
-    let old = t.peers[k];
-    let held = table_lookup::found(at, n, old);
+    let e = t.peers[k];
+    let mut held = table_lookup::found(at, n, e);
+    if expires {
+        t = table_expiry::expire(t, time);
+        held = table_lookup::look(t, m);
+    }
     let Check::Passed = base_facts::fail_if(table_lookup::stale(held, b.mn)) else {
         return call_accept::refused(p, 11);
     };
@@ -89,20 +58,24 @@ pub fn receive(p: Participant, time: u64, verdict: bool, frame: &[u8]) -> Receiv
         return call_accept::refused(p, 12);
     };
     let proves = proof::proves(frame, w, own, p.mn);
-    let to = table_enter::place(held, n);
+    let to = table_enter::place(held, t.count);
     t.peers[to] = table_enter::anew(held, call_accept::heard_of(b), proves, time);
-    t.count = table_enter::grown(held, n);
-    let mark = base_facts::either(p.mark, table_lookup::becomes_live(held, proves));
-    let q = with_table(p, t, time, mark);
+    t.count = table_enter::grown(held, t.count);
+    let mut q = p;
+    q.table = t;
+    q.mark = base_facts::either(p.mark, table_lookup::becomes_live(held, proves));
+    q.clock = time;
     let sak = w.sak;
     if sak.present {
-        let s = q;
-        let r = call_accept::accepted(s, frame, m, sak);
-        return r;
+        let before = p.latest;
+        let older = p.old;
+        let server = table_election::elect(t, call_standing::own_rank(p));
+        let k = keys::take_sak(server, before, older, frame, m, sak);
+        let latest = k.latest;
+        let old = k.old;
+        q.latest = latest;
+        q.old = old;
+        return call_accept::accepted(q, k.place, k.len);
     }
-    let answer = Answer::Accepted(0, 0);
-    Received {
-        participant: q,
-        answer,
-    }
+    call_accept::accepted(q, 0, 0)
 }

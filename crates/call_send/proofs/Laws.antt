@@ -1,22 +1,33 @@
--- What a write's answer tells of the room; what a send leaves and sets, by its first fact and by its answer.
+-- What a write's answer tells of the room; what the frame says, by pieces; what a send leaves and sets, by its first fact and by its answer.
 use Prim.Native.Nat.{ℕ, _+_}
-use mathlib.Core.Path.{_≡_, refl, ap, _∙_}
-use mathlib.Core.Bool.{Bool, true, false, cond}
+use mathlib.Core.Path.{_≡_, refl, ap, ap₂, _∙_}
+use mathlib.Core.Bool.{Bool, true, false, cond, not, _&&_}
 use mathlib.Core.List.{List, _++_}
 use lib.Dec.{ltb, eqb}
 use lib.ListN.{length, drop}
 use borrow.Author.Tests.{ne-eqb, eqb-true, eqb-false}
 use Rattle.base_facts.specs.Facts.{firstOf}
 use Rattle.base_octets.specs.Run.{written}
+use Rattle.frame_sets.specs.declared.kinds.SakUse.{SakUse}
+use Rattle.table.specs.declared.Table.{Table}
 use Rattle.table_expiry.specs.Expiry.{expired}
+use Rattle.table_counts.specs.Counts.{liveCount}
+use Rattle.table_election.specs.declared.Rank.{Rank}
+use Rattle.table_election.specs.declared.Election.{Election}
+use Rattle.table_election.specs.Stand.{standOf}
 use Rattle.law_lists.specs.Laws.{by-cases, never}
 use Rattle.frame_writer.specs.Frame.{wroteOf}
+use Rattle.frame_writer.specs.declared.Sender.{Sender}
+use Rattle.frame_writer.specs.declared.Sak.{Sak}
 use Rattle.frame_writer.specs.declared.Wrote.the-variants as wrote
+use Rattle.call_standing.specs.Standing.{ownRank, serverOf, electedSelf}
+use Rattle.participant.specs.Keys.{ofMember}
 use Rattle.participant.specs.Call.{agedTo}
 use Rattle.participant.specs.Record.{setClock, setMn, setSent, setTable}
 use Rattle.participant.specs.declared.Participant.{Participant}
 use Rattle.participant.specs.First.{First, NoneHolds}
 use Rattle.participant.proofs.Settle.{first-holds, none-holds}
+use Rattle.call_send.specs.Message.{serverFlag, handsOut, senderWith, senderOf, sakOf, usageOf, saying, messageOf}
 use Rattle.call_send.specs.declared.Answer.the-variants.{Octets, Refused}
 use Rattle.call_send.specs.declared.Sent.{Sent}
 use Rattle.call_send.specs.Send.{frameAt, sendFacts, sentAt, refusedOf, sentOf, leftBy}
@@ -39,6 +50,29 @@ wrote-octets n room k e = cond-octets (ltb room n) n k e
 pub sent-sets : (p : Participant) (time : ℕ) → sentAt p time ≡ setTable (expired time (p .table)) (setSent time (setMn (p .mn + 1) (setClock time p)))
 unfolding sentAt agedTo
 sent-sets p time = refl
+
+-- ---- what the frame says, by pieces
+
+module _ (p : Participant) (time latestPn oldPn : ℕ) (t : Table) (rank : Rank) (s : Election) (aged : t ≡ expired time (p .table)) (own : rank ≡ ownRank p) (stood : s ≡ standOf rank t) where
+  asked : s ≡ standOf (ownRank p) (expired time (p .table))
+  asked = stood ∙ ap₂ standOf own aged
+
+  pub counted : s .live ≡ liveCount t
+  unfolding standOf
+  counted = ap (λ (r : Election). r .live) stood
+
+  pub spoken : (x : Sender) (usage : SakUse) (hands : Bool) (sak : Sak)
+      → x ≡ senderWith p (not (s .theirs)) → usage ≡ usageOf (p .latest) (p .old) latestPn oldPn → hands ≡ ofMember (p .latest) (p .mi) && (s .ours && not (p .mark)) → sak ≡ sakOf p
+      → saying x t (p .latest .held) usage hands sak ≡ messageOf (agedTo p time) latestPn oldPn
+  unfolding messageOf senderOf serverFlag handsOut sakOf electedSelf serverOf agedTo standOf
+  spoken x usage hands sak ex eu eh ek =
+      let server = ap (λ (r : Election). not (r .theirs)) asked in
+      let ours = ap (λ (r : Election). r .ours) asked in
+      let sender = ex ∙ ap (senderWith p) server in
+      let out = eh ∙ ap (λ (o : Bool). ofMember (p .latest) (p .mi) && (o && not (p .mark))) ours in
+      λ i. saying (sender i) (aged i) (p .latest .held) (eu i) (out i) (ek i)
+
+-- ---- what a send leaves and sets
 
 module _ (p : Participant) (time latestPn oldPn : ℕ) (out : List ℕ) where
   -- "It carries only its number; the participant, its clock included, .. stay unchanged", and so do the lent octets.

@@ -2,12 +2,12 @@
 use base_facts::Check;
 use frame_writer::Wrote;
 use participant::Participant;
-use participant::call;
 ghost use mathlib.Core.Path.{_≡_};
 ghost use lib.ListN.{length};
 ghost use Rattle.call_send.specs.Send.{refusedOf, sentOf, leftBy};
 
 mod message;
+mod writing;
 
 // The frame's length.
 pub enum Answer {
@@ -40,17 +40,28 @@ pub fn send(p: Participant, time: u64, latest_pn: u32, old_pn: u32, out: &mut [u
     let Check::Passed = base_facts::fail_if(p.mn == 4294967295) else {
         return refused(p, 14);
     };
-    let q = call::aged_to(p, time);
-    let m = message::message(q, latest_pn, old_pn);
-    let Wrote::Octets(n) = frame_writer::write(out, m) else {
+    let mut t = p.table;
+    t = table_expiry::expire(t, time);
+    let stand = table_election::stand(t, call_standing::own_rank(p));
+    let own = p.mi;
+    let latest = p.latest;
+    let old = p.old;
+    let hands = message::hands_out(latest, own, stand.ours, p.mark);
+    let usage = message::usage(latest, old, latest_pn, old_pn);
+    let x = message::sender(p, !stand.theirs);
+    let sak = message::sak(p);
+    let Wrote::Octets(n) = writing::put_frame(out, x, t, stand.live, latest.held, usage, hands, sak)
+    else {
         return refused(p, 13);
     };
-    let mut s = q;
-    s.mn = p.mn + 1;
-    s.sent = time;
+    let mut q = p;
+    q.table = t;
+    q.mn = p.mn + 1;
+    q.sent = time;
+    q.clock = time;
     let answer = Answer::Octets(n);
     Sent {
-        participant: s,
+        participant: q,
         answer,
     }
 }

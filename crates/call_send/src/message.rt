@@ -2,16 +2,16 @@
 use base_mi::Mi;
 use frame_sets::kinds::KeyUse;
 use frame_sets::kinds::SakUse;
-use frame_writer::Mkpdu;
 use frame_writer::Sak;
 use frame_writer::Sender;
 use participant::Participant;
 use participant::Slot;
 use participant::keys;
-use table_election::Server;
 ghost use mathlib.Core.Path.{_≡_};
 ghost use Prim.Native.Nat.{_<_};
-ghost use Rattle.call_send.specs.Message.{keyUseOf, serverFlag, handsOut, senderOf, sakOf, messageOf};
+ghost use mathlib.Core.Bool.{not, _&&_};
+ghost use Rattle.participant.specs.Keys.{ofMember};
+ghost use Rattle.call_send.specs.Message.{keyUseOf, usageOf, senderWith, sakOf};
 
 // What SAK Use says of a key, with the lowest PN lent by the host; zeros of an absent one.
 fn key_use(s: Slot, pn: u32) -> KeyUse
@@ -39,39 +39,28 @@ fn key_use(s: Slot, pn: u32) -> KeyUse
     }
 }
 
-fn server_flag(p: Participant) -> bool
-    ensures { λ r. ⌜ r ≡ serverFlag p ⌝ }
+// Whether the frame has a Distributed SAK: `elected` says whether we are.
+pub(crate) fn hands_out(latest: Slot, own: Mi, elected: bool, mark: bool) -> bool
+    ensures { λ r. ⌜ r ≡ ofMember latest own && (elected && not mark) ⌝ }
 {
-    match call_standing::server(p) {
-        Server::Nobody => true,
-        Server::Ourselves => true,
-        Server::Elected(_) => false,
-    }
-}
-
-// Whether the frame has a Distributed SAK.
-fn hands_out(p: Participant) -> bool
-    ensures { λ r. ⌜ r ≡ handsOut p ⌝ }
-{
-    let latest = p.latest;
-    let own = p.mi;
     if keys::of_member(latest, own) {
-        if call_standing::elected_self(p) {
-            return !p.mark;
+        if elected {
+            return !mark;
         }
     }
     false
 }
 
-fn sender(p: Participant) -> Sender
+// `server` is the Key Server flag.
+pub(crate) fn sender(p: Participant, server: bool) -> Sender
     requires { ⌜ p .mn < 4294967295 ⌝ }
-    ensures { λ r. ⌜ r ≡ senderOf p ⌝ }
+    ensures { λ r. ⌜ r ≡ senderWith p server ⌝ }
 {
     let mi = p.mi;
     let ckn = p.ckn;
     Sender {
         priority: p.priority,
-        server: server_flag(p),
+        server,
         desired: p.desired,
         capability: p.capability,
         sci: p.sci,
@@ -82,7 +71,7 @@ fn sender(p: Participant) -> Sender
     }
 }
 
-fn sak(p: Participant) -> Sak
+pub(crate) fn sak(p: Participant) -> Sak
     ensures { λ r. ⌜ r ≡ sakOf p ⌝ }
 {
     let latest = p.latest;
@@ -97,24 +86,11 @@ fn sak(p: Participant) -> Sak
 }
 
 // `latest_pn` and `old_pn` are the lowest packet numbers that the host lends.
-pub(crate) fn message(p: Participant, latest_pn: u32, old_pn: u32) -> Mkpdu
-    requires { ⌜ p .mn < 4294967295 ⌝ }
-    ensures { λ r. ⌜ r ≡ messageOf p «latest_pn» «old_pn» ⌝ }
+pub(crate) fn usage(latest: Slot, old: Slot, latest_pn: u32, old_pn: u32) -> SakUse
+    ensures { λ r. ⌜ r ≡ usageOf latest old «latest_pn» «old_pn» ⌝ }
 {
-    let t = p.table;
-    let latest = p.latest;
-    let old = p.old;
-    let usage = SakUse {
+    SakUse {
         latest: key_use(latest, latest_pn),
         old: key_use(old, old_pn),
-    };
-    Mkpdu {
-        sender: sender(p),
-        live: table_counts::live_list(t),
-        potential: table_counts::potential_list(t),
-        used: latest.held,
-        usage,
-        distributed: hands_out(p),
-        sak: sak(p),
     }
 }

@@ -1,10 +1,10 @@
 -- What is asked of the table as it stands: a call asks so once the table is expired to its time.
-use mathlib.Core.Bool.{Bool, true, false, not, _||_, _&&_}
+use mathlib.Core.Bool.{Bool, not, _||_, _&&_}
 use lib.Dec.{eqb}
 use Rattle.table_election.specs.declared.Rank.{Rank}
 use Rattle.table_election.specs.declared.Server.{Server}
-use Rattle.table_election.specs.declared.Server.the-variants.{Nobody, Ourselves, Elected}
 use Rattle.table_election.specs.Elect.{elected}
+use Rattle.table_election.specs.Stand.{isOurs}
 use Rattle.table_expiry.specs.Expiry.{freshAt}
 use Rattle.table_counts.specs.Counts.{potentialCount}
 use Rattle.participant.specs.declared.Participant.{Participant}
@@ -15,11 +15,6 @@ ownRank p = record { priority = p .priority; sci = p .sci; mi = p .mi }
 -- "Who is Key Server"
 unfoldable pub serverOf : Participant → Server
 serverOf p = elected (ownRank p) (p .table)
-
-abbrev pub isOurs : Server → Bool
-isOurs Nobody = false
-isOurs Ourselves = true
-isOurs (Elected m) = false
 
 -- "we are elected"
 unfoldable pub electedSelf : Participant → Bool

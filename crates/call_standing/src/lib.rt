@@ -5,7 +5,7 @@ use table_election::Server;
 ghost use mathlib.Core.Path.{_≡_};
 ghost use Rattle.call_standing.specs.Standing.{ownRank, serverOf, electedSelf, pauseOver, freshDue};
 
-fn own_rank(p: Participant) -> Rank
+pub fn own_rank(p: Participant) -> Rank
     ensures { λ r. ⌜ r ≡ ownRank p ⌝ }
 {
     let mi = p.mi;

@@ -8,9 +8,11 @@ use native.Mathlib.Omega.{arith}
 use lib.ListN.{length, getD, drop, drop-of-length-le}
 use lib.Seq.{drop-cons}
 use borrow.Author.Tests.{eq-eqb, ne-eqb}
-use Rattle.frame.specs.Basic.{lengthOf, fact2, bodyLen}
+use Rattle.frame.specs.Basic.{lengthOf, fact2, bodyLen, basicAnswer}
 use Rattle.frame.specs.Ours.{sameAt}
 use Rattle.frame.specs.declared.Length.the-variants.{Octets, Short}
+use Rattle.frame.specs.declared.Basic.{Basic}
+use Rattle.frame.specs.declared.BasicRead.the-variants.{Read, Refused}
 
 cond-short : (t : Bool) (m : ℕ) → cond t Short (Octets m) ≡ Short → t ≡ true
 cond-short true m e = refl
@@ -27,6 +29,13 @@ length-short s e = cond-short (fact2 s) (bodyLen s) e
 pub length-octets : (s : List ℕ) (n : ℕ) → lengthOf s ≡ Octets n → (fact2 s ≡ false) × (bodyLen s ≡ n)
 unfolding lengthOf
 length-octets s n e = cond-octets (fact2 s) (bodyLen s) n e
+
+-- the answer by the first fact's number, as it was computed
+pub answer-refused : (x n : ℕ) (b : Basic) → x ≡ n → (x ≡ 0 → ⊥) → Refused x ≡ basicAnswer n b
+answer-refused x n b e h = rw (← e, ne-eqb x 0 h)
+
+pub answer-read : (x n : ℕ) (r b : Basic) → x ≡ n → x ≡ 0 → r ≡ b → Read r ≡ basicAnswer n b
+answer-read x n r b e h k = rw (← e, eq-eqb x 0 h, k)
 
 pub same-next : (s : List ℕ) (p i : ℕ) (key : List ℕ) → i < length key → getD s p 0 ≡ getD key i 0 → sameAt s (p + 1) (drop (i + 1) key) ≡ sameAt s p (drop i key)
 unfolding sameAt

@@ -2,7 +2,8 @@
 use base_facts::Check;
 use base_mi::Mi;
 ghost use mathlib.Core.Path.{_≡_};
-ghost use Rattle.base_facts.specs.Facts.{checkOf};
+ghost use mathlib.Core.List.{[], _∷_};
+ghost use Rattle.base_facts.specs.Facts.{checkOf, firstOf};
 ghost use Rattle.frame.specs.Basic.{lengthOf, fact3, fact4, fact5, basicLen, basicFields, basicOf};
 
 pub mod ours;
@@ -88,14 +89,19 @@ fn basic_fields(frame: &[u8], n: u16, body: usize) -> Basic
     ensures { λ r. ⌜ r ≡ basicFields (now (frame .entry)) n body ⌝ }
 {
     let f = base_packed::basic::unpack(base_octets::octet(frame, 6));
+    let sci = base_octets::u32_at(frame, 8) as u64 * 4294967296
+        + base_octets::u32_at(frame, 12) as u64;
+    let hi = base_octets::u32_at(frame, 16) as u64 * 4294967296
+        + base_octets::u32_at(frame, 20) as u64;
+    let lo = base_octets::u32_at(frame, 24);
     Basic {
         version: base_octets::octet(frame, 4),
         priority: base_octets::octet(frame, 5),
         server: f.server,
         desired: f.desired,
         capability: f.capability,
-        sci: base_octets::u64_at(frame, 8),
-        mi: base_mi::mi_at(frame, 16),
+        sci,
+        mi: Mi { hi, lo },
         mn: base_octets::u32_at(frame, 28),
         agility: base_octets::u32_at(frame, 32),
         size: base_facts::less(n as usize, 28),
@@ -104,21 +110,32 @@ fn basic_fields(frame: &[u8], n: u16, body: usize) -> Basic
     }
 }
 
+// The first fact of 3 to 5 that holds, 0 where none does.
+fn wrong(frame: &[u8], body: usize, n: u16) -> u8
+    ensures { λ r. ⌜ r ≡ firstOf ((3, fact3 (now (frame .entry))) ∷ (4, fact4 body) ∷ (5, fact5 n body) ∷ []) ⌝ }
+{
+    let Check::Passed = kind(frame) else {
+        return 3;
+    };
+    let Check::Passed = body_shape(body) else {
+        return 4;
+    };
+    let Check::Passed = basic_shape(n, body) else {
+        return 5;
+    };
+    0
+}
+
 pub fn read_basic(frame: &[u8]) -> BasicRead
     ensures { λ r. ⌜ r ≡ basicOf (now (frame .entry)) ⌝ }
 {
     let Length::Octets(body) = body_length(frame) else {
         return BasicRead::Refused(2);
     };
-    let Check::Passed = kind(frame) else {
-        return BasicRead::Refused(3);
-    };
-    let Check::Passed = body_shape(body) else {
-        return BasicRead::Refused(4);
-    };
     let n = basic_length(frame);
-    let Check::Passed = basic_shape(n, body) else {
-        return BasicRead::Refused(5);
-    };
+    let x = wrong(frame, body, n);
+    if x != 0 {
+        return BasicRead::Refused(x);
+    }
     BasicRead::Read(basic_fields(frame, n, body))
 }

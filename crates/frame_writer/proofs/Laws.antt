@@ -1,5 +1,5 @@
 -- Lengths of a frame's parts.
-use Prim.Native.Nat.{ℕ, _+_, _*_, _%_, _≤_, min}
+use Prim.Native.Nat.{ℕ, _+_, _*_, _%_, _≤_, _<_, min}
 use mathlib.Core.Path.{_≡_, refl, ap, sym, _∙_}
 use mathlib.Core.List.{List, [], _∷_, _++_, map}
 use mathlib.Core.Bool.{Bool, true, false, cond, not}
@@ -19,7 +19,7 @@ use Rattle.frame_sets.specs.declared.kinds.SakUse.{SakUse}
 use Rattle.frame_writer.specs.declared.Sender.{Sender}
 use Rattle.frame_writer.specs.declared.Sak.{Sak}
 use Rattle.frame_writer.specs.declared.Mkpdu.{Mkpdu}
-use Rattle.frame_writer.specs.Frame.{headerOctets, cknOf, fixedOctets, cknOctets, basicOctets, setHeader, listOctets, listSet, useOctets, useSet, usePart, sakSet, sakPart, bodyOctets, frameOf}
+use Rattle.frame_writer.specs.Frame.{headerOctets, cknOf, fixedOctets, cknOctets, basicOctets, setHeader, listOctets, listSet, useOctets, useSet, usePart, sakSet, sakPart, bodyOctets, listSize, frameSize, frameOf}
 
 -- the length of an array of structs that is a struct's field, from what owning the struct tells
 pub unmapped : (X Y : Type 0) (f : X → Y) (l : List X) (n : ℕ) → length (map f l) ≡ n → length l ≡ n
@@ -188,3 +188,39 @@ body-four m e =
       length-usePart (m .used) (m .usage),
       length-sakPart (m .distributed) (m .sak) e,
     )
+
+-- ---- the whole's length by what a frame has
+
+pub list-sized : (t : ℕ) (l : Entries) → length (l .entries) ≡ 16 → length (listSet t (entriesOf l)) ≡ listSize (min (l .count) 16)
+unfolding listSize
+list-sized t l e = length-listSet t (entriesOf l) ∙ rw (length-entries l e)
+
+pub frame-sized : (m : Mkpdu)
+    → length (m .sender .ckn) ≡ 32
+    → length (m .live .entries) ≡ 16
+    → length (m .potential .entries) ≡ 16
+    → length (m .sak .wrapped) ≡ 24
+    → length (frameOf m) ≡ frameSize (m .sender .size) (m .live .count) (m .potential .count) (m .used) (m .distributed)
+unfolding frameSize
+frame-sized m ckn live potential wrapped =
+    omega (
+      arith,
+      length-frame m,
+      length-body m,
+      length-basic (m .sender),
+      length-cknOf (m .sender) ckn,
+      list-sized 1 (m .live) live,
+      list-sized 2 (m .potential) potential,
+      length-usePart (m .used) (m .usage),
+      length-sakPart (m .distributed) (m .sak) wrapped,
+    )
+
+-- and its bounds
+pub size-bounds : (size live potential : ℕ) (used distributed : Bool) → (52 ≤ frameSize size live potential used distributed) × (frameSize size live potential used distributed < 1024)
+unfolding frameSize listSize
+size-bounds size live potential used distributed =
+    let l = cond-le (eqb (min live 16) 0) 0 (4 + min live 16 * 16) 260 (omega arith) (omega arith) in
+    let p = cond-le (eqb (min potential 16) 0) 0 (4 + min potential 16 * 16) 260 (omega arith) (omega arith) in
+    let u = cond-le used 44 0 44 (omega arith) (omega arith) in
+    let d = cond-le distributed 32 0 32 (omega arith) (omega arith) in
+    (omega arith, omega arith)

@@ -91,6 +91,15 @@ bodyOctets m =
     ++ (sakPart (m .distributed) (m .sak)
     ++ replicate 16 0))))
 
+-- A list of n entries: a header of 4 octets and "MI 12, MN 4, repeated", "only if not empty".
+unfoldable pub listSize : ℕ → ℕ
+listSize n = cond (eqb n 0) 0 (4 + n * 16)
+
+-- How many octets a frame has whose arrays have their lengths (`frame-sized`): header and Basic set with the padded CKN, the lists, "SAK Use", "Distributed SAK of 28", "16 zero octets for the ICV".
+unfoldable pub frameSize : ℕ → ℕ → ℕ → Bool → Bool → ℕ
+frameSize size live potential used distributed =
+    36 + paddedOf (min size 32) + listSize (min live 16) + listSize (min potential 16) + cond used 44 0 + cond distributed 32 0 + 16
+
 unfoldable pub frameOf : Mkpdu → List ℕ
 frameOf m = headerOctets (length (bodyOctets m)) ++ bodyOctets m
 

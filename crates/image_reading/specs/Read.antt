@@ -23,7 +23,7 @@ sizes = 116 ∷ 44 ∷ 28 ∷ []
 unfoldable pub numbersGood : List ℕ → Bool
 numbersGood s = eqb (recordsAt s 0) 1 && (leb (recordsAt s 1) 16 && leb (recordsAt s 2) 2)
 
--- Where the latest key's record stands, 0, and the old one's, 1.
+-- Where a key's record stands: 0 is the latest's, 1 the old one's.
 abbrev pub keyPlace : List ℕ → ℕ → ℕ
 keyPlace s i = offsetAt s 2 + i * 28
 
@@ -34,13 +34,16 @@ clean s =
     && (peersClean s (offsetAt s 1) (recordsAt s 1)
     && (slotClean s (keyPlace s 0) (ltb 0 (recordsAt s 2)) && slotClean s (keyPlace s 1) (ltb 1 (recordsAt s 2))))
 
+-- What an image tells, but for its peers.
+abbrev pub toldButPeers : List ℕ → Participant
+toldButPeers s =
+    setLatest (slotAt s (keyPlace s 0) (ltb 0 (recordsAt s 2)))
+    (setOld (slotAt s (keyPlace s 1) (ltb 1 (recordsAt s 2)))
+    (ownAt s (offsetAt s 0)))
+
 -- What an image tells.
 unfoldable pub toldBy : List ℕ → Participant
-toldBy s =
-    setTable (tableOf (peersAt s (offsetAt s 1) (min (recordsAt s 1) 16)))
-    (setLatest (slotAt s (keyPlace s 0) (ltb 0 (recordsAt s 2)))
-    (setOld (slotAt s (keyPlace s 1) (ltb 1 (recordsAt s 2)))
-    (ownAt s (offsetAt s 0))))
+toldBy s = setTable (tableOf (peersAt s (offsetAt s 1) (min (recordsAt s 1) 16))) (toldButPeers s)
 
 -- "Well formed"
 unfoldable pub wellFormed : List ℕ → Bool

@@ -4,9 +4,8 @@ use table::Peer;
 use table::ROOM;
 use table::Table;
 ghost use mathlib.Core.Path.{_≡_};
-ghost use lib.ListN.{drop};
 ghost use Rattle.table.specs.Table.{entries};
-ghost use Rattle.table_expiry.specs.Kept.{absent, freshProof};
+ghost use Rattle.table_expiry.specs.Kept.{freshProof};
 ghost use Rattle.image_rules.specs.Records.{proofGood, timesGood, peerGood, peersGood};
 
 fn proof_fresh(clock: u64, q: Peer) -> bool
@@ -58,38 +57,26 @@ fn peer_good(own: Mi, clock: u64, q: Peer) -> bool
     !base_mi::same_mi(own, m)
 }
 
-// Whether none of the entries from a place on has this identifier.
-fn absent_from(t: Table, from: usize, m: Mi) -> bool
-    ensures { λ r. ⌜ r ≡ absent m (drop from (entries t)) ⌝ }
-{
-    let peers = t.peers;
-    let n = base_facts::at_most(t.count, ROOM);
-    let mut i = from;
-    while i < n {
-        let q = peers[i];
-        let x = q.mi;
-        if base_mi::same_mi(m, x) {
-            return false;
-        }
-        i += 1;
-    }
-    true
-}
-
+// The inner loop is here and not a function's, which would take a copy of the table for each entry (docs/COST.md).
 pub fn peers_good(own: Mi, clock: u64, t: Table) -> bool
     ensures { λ r. ⌜ r ≡ peersGood own clock (entries t) ⌝ }
 {
-    let peers = t.peers;
     let n = base_facts::at_most(t.count, ROOM);
     let mut i: usize = 0;
     while i < n {
-        let q = peers[i];
+        let q = t.peers[i];
         let m = q.mi;
         if !peer_good(own, clock, q) {
             return false;
         }
-        if !absent_from(t, i + 1, m) {
-            return false;
+        let mut j = i + 1;
+        while j < n {
+            let r = t.peers[j];
+            let x = r.mi;
+            if base_mi::same_mi(m, x) {
+                return false;
+            }
+            j += 1;
         }
         i += 1;
     }

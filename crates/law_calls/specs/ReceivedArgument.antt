@@ -18,7 +18,7 @@ use Rattle.call_judge.specs.Judge.{basicIn, walkIn, placesIn, frameFacts}
 use Rattle.call_hearing.specs.Keys.{isServer, isKnown, keyedOf}
 use Rattle.call_receive.specs.Receive.{tableFacts, receiveFacts, receivedOf}
 use Rattle.call_accept.specs.Accept.{admitted, updatedBy, acceptedBy}
-use Rattle.call_hearing.specs.declared.keys.Keyed.{Keyed}
+use Rattle.call_hearing.specs.Keys.{Keyed}
 use Rattle.call_accept.specs.declared.Received.{Received}
 use Rattle.law_calls.specs.Received.{number, RefusedExactly, AcceptedExactly, RefusedFirst, ReceivedClock, AcceptedNone}
 

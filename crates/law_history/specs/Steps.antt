@@ -23,7 +23,7 @@ use Rattle.call_receive.specs.Receive.{tableFacts, receiveFacts, receivedOf}
 use Rattle.call_accept.specs.Accept.{acceptedBy, acceptedOf}
 use Rattle.call_accept.specs.Accept as receive
 use Rattle.call_accept.specs.declared.Received.{Received}
-use Rattle.call_hearing.specs.declared.keys.Keyed.{Keyed}
+use Rattle.call_hearing.specs.Keys.{Keyed}
 use Rattle.call_send.specs.Send.{frameAt, sendFacts, sentAt, sentOf, leftBy}
 use Rattle.call_send.specs.Send as send
 use Rattle.call_send.specs.declared.Sent.{Sent}

@@ -1,12 +1,12 @@
--- The table gone through once and changed in its place: the fast forms say what looking up, ageing and entering say.
-use Prim.Native.Nat.{ℕ, _+_, _-_, _≤_, _<_, min}
+-- The table gone through once and changed in its place: the fast forms say what looking up and entering say.
+use Prim.Native.Nat.{ℕ, _+_, _≤_, _<_, min}
 use mathlib.Core.Path.{_≡_, refl, sym, _∙_}
 use mathlib.Core.Bool.{Bool, true, false, cond}
-use mathlib.Core.List.{List}
+use mathlib.Core.List.{List, [], _∷_}
 use native.Mathlib.Omega.{arith}
 use lib.ListN.{length, getD, set, take, drop}
 use lib.Dec.{leb, eqb}
-use borrow.Author.Tests.{lt-ltb, le-ltb, le-leb, lt-leb, leb-true, leb-false, ne-eqb, eqb-false}
+use borrow.Author.Tests.{lt-ltb, le-leb, lt-leb, leb-true, leb-false, ne-eqb, eqb-false}
 use Rattle.base_mi.specs.declared.Mi.{Mi}
 use Rattle.base_mi.specs.Mi.{miSame}
 use Rattle.table.specs.declared.Peer.{Peer}
@@ -14,25 +14,11 @@ use Rattle.table.specs.declared.Table.{Table}
 use Rattle.table_lookup.specs.declared.Held.{Held}
 use Rattle.table_lookup.specs.declared.Held.the-variants.{At, Missing}
 use Rattle.table_enter.specs.declared.Heard.{Heard}
-use Rattle.table.specs.Table.{room, blankPeer, pushed}
-use Rattle.table_expiry.specs.Expiry.{lifeTime, freshAt, stillPeer, steadyIn, oldestAt, stillFrom}
-use Rattle.table_lookup.specs.Look.{seek, firstAt, foundAt, noRoomFor}
+use Rattle.table.specs.Table.{room, blankPeer, entries, pushed}
+use Rattle.table_lookup.specs.Look.{seek, heldIn, firstAt, foundAt, noRoomFor}
 use Rattle.table_enter.specs.Enter.{heldPeer, updated, replaced, enteredAt, placeFor, grownBy}
-use Rattle.table_expiry.proofs.Aging.{counted}
+use Rattle.table_expiry.proofs.Aging.{at-most-16}
 use Rattle.law_lists.specs.Laws.{by-cases, loop-next, drop-end}
-
--- less than a life time old is not from before the oldest such time
-pub fresh-from : (time at : ℕ) → leb (oldestAt time) at ≡ freshAt time at
-fresh-from time at =
-    by-cases (leb (oldestAt time) at)
-    (λ e. rw (e, lt-ltb (time - at) lifeTime (omega (arith, leb-true (oldestAt time) at e))))
-    (λ e. rw (e, le-ltb (time - at) lifeTime (omega (arith, leb-false (oldestAt time) at e))))
-
-pub still-from : (time : ℕ) (p : Peer) → stillFrom (oldestAt time) p ≡ stillPeer time p
-still-from time p =
-    by-cases (p .proven)
-    (λ e. rw (e, fresh-from time (p .accepted), fresh-from time (p .proof)) (by-cases (freshAt time (p .proof)) (λ f. rw f) (λ f. rw f)))
-    (λ e. rw (e, fresh-from time (p .accepted)))
 
 -- what has been found so far, where the entries of `left` from i on are left: `p` is the entry at `at`
 abbrev pub sought : Mi → ℕ → ℕ → ℕ → Peer → List Peer → Held
@@ -45,11 +31,7 @@ first-below at n i m p le lt =
     (λ a. rw a le)
 
 module _ (n : ℕ) (l : List Peer) (count : ℕ) (whole : length l ≡ 16) (few : n ≡ min count 16) where
-  -- one turn of the loop that ages and looks up
-  pub steady-turn : (time i : ℕ) → i < n → stillFrom (oldestAt time) (getD l i blankPeer) ≡ true
-      → steadyIn time (drop i (take n l)) ≡ steadyIn time (drop (i + 1) (take n l))
-  steady-turn time i lt e = rw (loop-next n i l count blankPeer whole few lt, sym (still-from time (getD l i blankPeer)) ∙ e)
-
+  -- one turn of the loop that looks up
   pub sought-turn : (m : Mi) (at i : ℕ) (h : Held) → i < n → sought m at n i (getD l at blankPeer) (drop i (take n l)) ≡ h
       → sought m (firstAt at n i m (getD l i blankPeer)) n (i + 1) (getD l (firstAt at n i m (getD l i blankPeer)) blankPeer) (drop (i + 1) (take n l)) ≡ h
   sought-turn m at i h lt e =
@@ -82,16 +64,13 @@ in-place (At i p) h proves time t e = refl
 in-place Missing h proves time t e = rw (lt-ltb (t .count) 16 (leb-false 16 (t .count) e))
 
 -- and that place is one of the 16
-pub place-fits : (at n : ℕ) (p : Peer) (t : Table) → at ≤ n → n ≡ min (t .count) 16 → noRoomFor (foundAt at n p) t ≡ false → placeFor (foundAt at n p) n < 16
-place-fits at n p t le few e =
-    by-cases (eqb at n)
-    (λ a. let c = leb-false 16 (t .count) (rw a at e) in rw a (omega (arith, c)))
-    (λ a. let ne = eqb-false at n a in rw a (omega (arith, ne)))
+seek-fits : (m : Mi) (k : ℕ) (l : List Peer) (t : Table) → k + length l ≤ 16 → noRoomFor (seek m k l) t ≡ false → placeFor (seek m k l) (t .count) < 16
+seek-fits m k [] t h e = leb-false 16 (t .count) e
+seek-fits m k (p ∷ l) t h e =
+    by-cases (miSame m (p .mi))
+    (λ a. rw a (omega arith))
+    (λ a. rw a (seek-fits m (k + 1) l t (omega arith) (rw a at e)))
 
--- a count above 16 is full as 16 is
-pub no-room-counted : (held : Held) (t : Table) → noRoomFor held (counted t) ≡ noRoomFor held t
-no-room-counted (At i p) t = refl
-no-room-counted Missing t =
-    by-cases (leb 16 (t .count))
-    (λ e. rw (e, le-leb 16 (min (t .count) 16) (omega (arith, leb-true 16 (t .count) e))))
-    (λ e. rw (e, lt-leb 16 (min (t .count) 16) (omega (arith, leb-false 16 (t .count) e))))
+pub held-fits : (m : Mi) (t : Table) → noRoomFor (heldIn m t) t ≡ false → placeFor (heldIn m t) (t .count) < 16
+unfolding heldIn
+held-fits m t e = seek-fits m 0 (entries t) t (omega (arith, at-most-16 t)) e

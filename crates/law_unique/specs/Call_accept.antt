@@ -9,20 +9,14 @@ call-accept·refused·asks-nothing κs a w = refl
 pub call-accept·refused : OneAnswer call_accept.refused.Kinds.ps call_accept.refused.Kinds.r call_accept.refused.Reads.Learnt
 call-accept·refused κs a z z′ e e′ h h′ = same h h′
 
-pub call-accept·heard-of·asks-nothing : AsksNothing call_accept.heard_of.signature call_accept.heard_of.Reads.requires
-call-accept·heard-of·asks-nothing κs a w = refl
-
-pub call-accept·heard-of : OneAnswer call_accept.heard_of.Kinds.ps call_accept.heard_of.Kinds.r call_accept.heard_of.Reads.Learnt
-call-accept·heard-of κs a z z′ e e′ h h′ = same h h′
-
 pub call-accept·accepted·asks-nothing : AsksNothing call_accept.accepted.signature call_accept.accepted.Reads.requires
 call-accept·accepted·asks-nothing κs a w = refl
 
 pub call-accept·accepted : OneAnswer call_accept.accepted.Kinds.ps call_accept.accepted.Kinds.r call_accept.accepted.Reads.Learnt
 call-accept·accepted κs a z z′ e e′ h h′ = same h h′
 
-pub call-accept·late·asks-nothing : AsksNothing call_accept.late.signature call_accept.late.Reads.requires
-call-accept·late·asks-nothing κs a w = refl
+pub call-accept·heard-of·asks-nothing : AsksNothing call_accept.heard_of.signature call_accept.heard_of.Reads.requires
+call-accept·heard-of·asks-nothing κs a w = refl
 
-pub call-accept·late : OneAnswer call_accept.late.Kinds.ps call_accept.late.Kinds.r call_accept.late.Reads.Learnt
-call-accept·late κs a z z′ e e′ h h′ = same h h′
+pub call-accept·heard-of : OneAnswer call_accept.heard_of.Kinds.ps call_accept.heard_of.Kinds.r call_accept.heard_of.Reads.Learnt
+call-accept·heard-of κs a z z′ e e′ h h′ = same h h′

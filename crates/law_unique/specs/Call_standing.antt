@@ -3,6 +3,12 @@ use mathlib.Core.Path.{refl}
 use Rattle.call_standing.proofs as call_standing
 use Rattle.law_unique.specs.Law.{AsksNothing, OneAnswer, same}
 
+pub call-standing·own-rank·asks-nothing : AsksNothing call_standing.own_rank.signature call_standing.own_rank.Reads.requires
+call-standing·own-rank·asks-nothing κs a w = refl
+
+pub call-standing·own-rank : OneAnswer call_standing.own_rank.Kinds.ps call_standing.own_rank.Kinds.r call_standing.own_rank.Reads.Learnt
+call-standing·own-rank κs a z z′ e e′ h h′ = same h h′
+
 pub call-standing·server·asks-nothing : AsksNothing call_standing.server.signature call_standing.server.Reads.requires
 call-standing·server·asks-nothing κs a w = refl
 

@@ -18,6 +18,7 @@ pub mod Table_enter
 pub mod Table_counts
 pub mod Table_election
 pub mod Frame_writer
+pub mod Call_lists
 pub mod Participant
 pub mod Call_creation
 pub mod Call_standing

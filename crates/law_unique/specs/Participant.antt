@@ -44,9 +44,3 @@ participant·keys·with-key·asks-nothing κs a w = refl
 
 pub participant·keys·with-key : OneAnswer participant.keys.with_key.Kinds.ps participant.keys.with_key.Kinds.r participant.keys.with_key.Reads.Learnt
 participant·keys·with-key κs a z z′ e e′ h h′ = same h h′
-
-pub participant·keys·without-keys·asks-nothing : AsksNothing participant.keys.without_keys.signature participant.keys.without_keys.Reads.requires
-participant·keys·without-keys·asks-nothing κs a w = refl
-
-pub participant·keys·without-keys : OneAnswer participant.keys.without_keys.Kinds.ps participant.keys.without_keys.Kinds.r participant.keys.without_keys.Reads.Learnt
-participant·keys·without-keys κs a z z′ e e′ h h′ = same h h′

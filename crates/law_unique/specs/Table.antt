@@ -14,9 +14,3 @@ table·empty·asks-nothing κs a w = refl
 
 pub table·empty : OneAnswer table.empty.Kinds.ps table.empty.Kinds.r table.empty.Reads.Learnt
 table·empty κs a z z′ e e′ h h′ = same h h′
-
-pub table·push·asks-nothing : AsksNothing table.push.signature table.push.Reads.requires
-table·push·asks-nothing κs a w = refl
-
-pub table·push : OneAnswer table.push.Kinds.ps table.push.Kinds.r table.push.Reads.Learnt
-table·push κs a z z′ e e′ h h′ = same h h′

@@ -20,9 +20,3 @@ table-enter·grown·asks-nothing κs a w = refl
 
 pub table-enter·grown : OneAnswer table_enter.grown.Kinds.ps table_enter.grown.Kinds.r table_enter.grown.Reads.Learnt
 table-enter·grown κs a z z′ e e′ h h′ = same h h′
-
-pub table-enter·enter·asks-nothing : AsksNothing table_enter.enter.signature table_enter.enter.Reads.requires
-table-enter·enter·asks-nothing κs a w = refl
-
-pub table-enter·enter : OneAnswer table_enter.enter.Kinds.ps table_enter.enter.Kinds.r table_enter.enter.Reads.Learnt
-table-enter·enter κs a z z′ e e′ h h′ = same h h′

@@ -4,7 +4,7 @@ use crate::Participant;
 use crate::Slot;
 use base_mi::Mi;
 ghost use mathlib.Core.Path.{_≡_};
-ghost use Rattle.participant.specs.Keys.{noSlot, slotOf, ofMember, isKey, withKey, withoutKeys};
+ghost use Rattle.participant.specs.Keys.{noSlot, slotOf, ofMember, isKey, withKey};
 
 pub fn empty() -> Slot
     ensures { λ r. ⌜ r ≡ noSlot ⌝ }
@@ -53,14 +53,5 @@ pub fn with_key(p: Participant, key: Key) -> Participant
     let mut q = p;
     q.old = before;
     q.latest = latest;
-    q
-}
-
-pub fn without_keys(p: Participant) -> Participant
-    ensures { λ r. ⌜ r ≡ withoutKeys p ⌝ }
-{
-    let mut q = p;
-    q.latest = empty();
-    q.old = empty();
     q
 }

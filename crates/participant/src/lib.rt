@@ -27,21 +27,21 @@ pub struct Slot {
 // `sent` and `distributed` are the times of the last send and the last distribution; the CKN is the first `size` octets.
 #[repr(C)]
 pub struct Participant {
+    pub table: Table,
+    pub clock: u64,
     pub mi: Mi,
     pub mn: u32,
-    pub sci: u64,
+    pub mark: bool,
+    pub size: usize,
+    pub ckn: [u8; 32],
     pub priority: u8,
     pub capability: u8,
     pub desired: bool,
-    pub mark: bool,
-    pub clock: u64,
+    pub sci: u64,
     pub sent: u64,
     pub kn: u32,
     pub distributed: u64,
-    pub size: usize,
-    pub ckn: [u8; 32],
     pub wrapped: [u8; 24],
-    pub table: Table,
     pub latest: Slot,
     pub old: Slot,
 }

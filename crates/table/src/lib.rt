@@ -1,7 +1,7 @@
 // The peer table: at most 16 entries by value, in order of entry.
 use base_mi::Mi;
 ghost use mathlib.Core.Path.{_≡_};
-ghost use Rattle.table.specs.Table.{blankPeer, emptyTable, pushed};
+ghost use Rattle.table.specs.Table.{blankPeer, emptyTable};
 
 pub const ROOM: usize = 16;
 
@@ -52,18 +52,4 @@ pub fn empty() -> Table
         peers: [blank(); ROOM],
         count: 0,
     }
-}
-
-// One more entry at the end; a full table stays as it is.
-pub fn push(t: Table, p: Peer) -> Table
-    ensures { λ r. ⌜ r ≡ pushed t p ⌝ }
-{
-    let at = t.count;
-    if ROOM <= at {
-        return t;
-    }
-    let mut next = t;
-    next.peers[at] = p;
-    next.count = at + 1;
-    next
 }

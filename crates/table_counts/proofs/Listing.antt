@@ -13,7 +13,7 @@ use Rattle.law_lists.specs.Lists.{those}
 use Rattle.table.specs.Table.{entries}
 use Rattle.table_lookup.specs.Look.{isLive, isPotential}
 use Rattle.table_counts.specs.Counts.{entryOf, blankEntry, listOf, liveCount, potentialCount, liveList, potentialList}
-use Rattle.law_lists.specs.Laws.{by-cases, length-those, length-of-map, take-pad}
+use Rattle.law_lists.specs.Laws.{by-cases, length-those, length-of-map, length-pad, take-pad}
 use Rattle.table_expiry.proofs.Aging.{at-most-16}
 
 parted : (l : List Peer) → length (those isLive l) + length (those isPotential l) ≡ length l
@@ -24,11 +24,11 @@ pub live-potential : (t : Table) → liveCount t + potentialCount t ≡ length (
 unfolding liveCount potentialCount
 live-potential t = parted (entries t)
 
+few : (f : Peer → Bool) (t : Table) → length (map entryOf (those f (entries t))) ≤ 16
+few f t = omega (arith, length-of-map entryOf (those f (entries t)), length-those f (entries t), at-most-16 t)
+
 listed : (f : Peer → Bool) (t : Table) → entriesOf (listOf (map entryOf (those f (entries t)))) ≡ map entryOf (those f (entries t))
-listed f t =
-    let l = map entryOf (those f (entries t)) in
-    let n : length l ≤ 16 = omega (arith, length-of-map entryOf (those f (entries t)), length-those f (entries t), at-most-16 t) in
-    fits l n
+listed f t = fits (map entryOf (those f (entries t))) (few f t)
   where
     fits : (l : List Entry) → length l ≤ 16 → entriesOf (listOf l) ≡ l
     fits l n = let e : min (length l) 16 ≡ length l = omega arith in rw e (take-pad 16 blankEntry l)
@@ -40,3 +40,20 @@ live-listed t = listed isLive t
 pub potential-listed : (t : Table) → entriesOf (potentialList t) ≡ map entryOf (those isPotential (entries t))
 unfolding potentialList
 potential-listed t = listed isPotential t
+
+-- the values' slots and counts
+pub live-whole : (t : Table) → length (liveList t .entries) ≡ 16
+unfolding liveList
+live-whole t = length-pad 16 blankEntry (map entryOf (those isLive (entries t))) (few isLive t)
+
+pub potential-whole : (t : Table) → length (potentialList t .entries) ≡ 16
+unfolding potentialList
+potential-whole t = length-pad 16 blankEntry (map entryOf (those isPotential (entries t))) (few isPotential t)
+
+pub live-counted : (t : Table) → liveList t .count ≡ liveCount t
+unfolding liveList liveCount
+live-counted t = length-of-map entryOf (those isLive (entries t))
+
+pub potential-counted : (t : Table) → potentialList t .count ≡ potentialCount t
+unfolding potentialList potentialCount
+potential-counted t = length-of-map entryOf (those isPotential (entries t))

@@ -13,7 +13,7 @@ ghost use Rattle.table.specs.Table.{entries};
 ghost use Rattle.table_counts.specs.Counts.{isOf, entryOf, blankEntry, listOf, liveCount, potentialCount, liveList, potentialList};
 
 // Whether the entry is Live, or, where that is asked, Potential.
-fn is_of(p: Peer, live: bool) -> bool
+pub fn is_of(p: Peer, live: bool) -> bool
     ensures { λ r. ⌜ r ≡ isOf live p ⌝ }
 {
     if live { p.proven } else { !p.proven }
@@ -48,7 +48,7 @@ pub fn potential_count(t: Table) -> usize
     count_of(t, false)
 }
 
-fn entry_of(p: Peer) -> Entry
+pub fn entry_of(p: Peer) -> Entry
     ensures { λ r. ⌜ r ≡ entryOf p ⌝ }
 {
     let mi = p.mi;

@@ -31,7 +31,8 @@ use Rattle.table_election.proofs.Order.{lower-ntrans, lower-asym, lower
 pub eligible-flagged : (p : Peer) → isLive p ≡ true → p .server ≡ true → eligible p ≡ mayLead (p .priority)
 eligible-flagged p a b = rw (a, b)
 
-either-way {ℓ} : (P : Bool → Type ℓ) → P true → P false → (t : Bool) → P t
+-- a fact of a test, by its two answers, where `rw` doesn't find the test
+pub either-way {ℓ} : (P : Bool → Type ℓ) → P true → P false → (t : Bool) → P t
 either-way P a b true = a
 either-way P a b false = b
 

@@ -1,3 +1,4 @@
 -- The laws that the layers above cite.
 pub mod Order
 pub mod Least
+pub mod Beaten

@@ -1,3 +1,4 @@
 pub mod Elect
 pub mod Least
 pub mod Lead
+pub mod Stand

@@ -6,6 +6,7 @@ use table::Table;
 ghost use mathlib.Core.Path.{_≡_};
 ghost use Rattle.table_election.specs.Elect.{lowerMi, lower, rankOf, mayLead, eligible, elected};
 ghost use Rattle.table_election.specs.Lead.{challenged, leadStep, serverLed, firstLead};
+ghost use Rattle.table_election.specs.Stand.{beatsUs, standOf};
 
 // What candidates are compared by.
 #[repr(C)]
@@ -137,20 +138,71 @@ fn start(own: Rank) -> Lead
     Lead::Neither
 }
 
+// How the election stands: how many peers are Live, whether we are elected, and whether a peer is.
+pub struct Election {
+    pub live: usize,
+    pub ours: bool,
+    pub theirs: bool,
+}
+
+// Whether this peer would lead before us.
+fn beats(p: Peer, own: Rank) -> bool
+    ensures { λ r. ⌜ r ≡ beatsUs own p ⌝ }
+{
+    if is_eligible(p) {
+        if may_lead(own.priority) {
+            return is_lower(rank_of(p), own);
+        }
+        return true;
+    }
+    false
+}
+
+pub fn stand(t: Table, own: Rank) -> Election
+    ensures { λ r. ⌜ r ≡ standOf own t ⌝ }
+{
+    let peers = t.peers;
+    let n = base_facts::at_most(t.count, ROOM);
+    let mut live: usize = 0;
+    let mut theirs = false;
+    let mut i: usize = 0;
+    while i < n {
+        let p = peers[i];
+        if p.proven {
+            live += 1;
+        }
+        if beats(p, own) {
+            theirs = true;
+        }
+        i += 1;
+    }
+    let mut ours = false;
+    if 0 < live {
+        if may_lead(own.priority) {
+            ours = !theirs;
+        }
+    }
+    Election { live, ours, theirs }
+}
+
 pub fn elect(t: Table, own: Rank) -> Server
     ensures { λ x. ⌜ x ≡ elected own t ⌝ }
 {
-    if table_counts::live_count(t) == 0 {
-        return Server::Nobody;
-    }
     let peers = t.peers;
     let n = base_facts::at_most(t.count, ROOM);
     let mut lead = start(own);
+    let mut live: usize = 0;
     let mut i: usize = 0;
     while i < n {
         let p = peers[i];
         lead = lead_step(lead, p);
+        if p.proven {
+            live += 1;
+        }
         i += 1;
+    }
+    if live == 0 {
+        return Server::Nobody;
     }
     server_of(lead)
 }

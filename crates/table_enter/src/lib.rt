@@ -1,11 +1,10 @@
-// An accepted frame enters its sender at the end of the table, or updates it in its place.
+// What an accepted frame makes of its sender's entry, and where it goes: to the end of the table, or to its place.
 use base_mi::Mi;
 use table::Peer;
 use table::ROOM;
-use table::Table;
 use table_lookup::Held;
 ghost use mathlib.Core.Path.{_≡_};
-ghost use Rattle.table_enter.specs.Enter.{heldPeer, proofAfter, updated, replaced, enteredAt, placeFor, grownBy};
+ghost use Rattle.table_enter.specs.Enter.{heldPeer, proofAfter, updated, placeFor, grownBy};
 
 // What a frame says of its sender.
 #[repr(C)]
@@ -44,18 +43,6 @@ fn update(old: Peer, h: Heard, proves: bool, time: u64) -> Peer
     }
 }
 
-// The entry at a place anew; past the slots nothing changes.
-fn replace(t: Table, at: usize, p: Peer) -> Table
-    ensures { λ r. ⌜ r ≡ replaced t at p ⌝ }
-{
-    if ROOM <= at {
-        return t;
-    }
-    let mut next = t;
-    next.peers[at] = p;
-    next
-}
-
 // The entry that a frame makes of what looking its sender up gave.
 pub fn anew(held: Held, h: Heard, proves: bool, time: u64) -> Peer
     ensures { λ r. ⌜ r ≡ updated (heldPeer held) h proves time ⌝ }
@@ -87,22 +74,6 @@ pub fn grown(held: Held, count: usize) -> usize
                 return count + 1;
             }
             count
-        }
-    }
-}
-
-// `held` is what looking the sender up gave. A full table without it stays as it is.
-pub fn enter(t: Table, held: Held, h: Heard, proves: bool, time: u64) -> Table
-    ensures { λ r. ⌜ r ≡ enteredAt held h proves time t ⌝ }
-{
-    match held {
-        Held::At(i, p) => {
-            let q = update(p, h, proves, time);
-            replace(t, i, q)
-        }
-        Held::Missing => {
-            let q = update(table::blank(), h, proves, time);
-            table::push(t, q)
         }
     }
 }

@@ -150,6 +150,10 @@ pub expired-steady : (time : ℕ) (t : Table) → length (t .peers) ≡ 16 → s
 unfolding expired
 expired-steady time t whole e = ap (refilled t) (steady-aged time (entries t) e) ∙ refilled-own t whole
 
+pub expired-counted : (time : ℕ) (t : Table) → expired time (counted t) ≡ expired time t
+unfolding expired
+expired-counted time t = ap (λ (l : List Peer). record { peers = pad (length l) blankPeer (agedList time l) ++ drop (length l) (t .peers); count = length (agedList time l) }) (entries-counted t)
+
 -- of one with blank slots past its count the table of what stays is left
 pub expired-tidy : (time : ℕ) (t : Table) → Tidy t → expired time t ≡ tableOf (agedList time (entries t))
 unfolding expired

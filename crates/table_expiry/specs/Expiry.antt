@@ -50,11 +50,11 @@ agedList time l = map (agedPeer time) (those (freshPeer time) l)
 abbrev pub refilled : Table → List Peer → Table
 refilled t l = record { peers = pad (length (entries t)) blankPeer l ++ drop (length (entries t)) (t .peers); count = length l }
 
--- The same of a table.
+-- What a time leaves of a table: those of its entries that stay.
 unfoldable pub expired : ℕ → Table → Table
 expired time t = refilled t (agedList time (entries t))
 
--- ---- the code's shortcut (Aging has its laws)
+-- ---- the code's shortcut (laws in proofs/Aging and proofs/Steady)
 
 -- Nothing of an entry is old.
 abbrev pub stillPeer : ℕ → Peer → Bool

@@ -4,8 +4,7 @@ use table::Peer;
 use table::ROOM;
 use table::Table;
 ghost use mathlib.Core.Path.{_≡_};
-ghost use Rattle.table.specs.Table.{entries};
-ghost use Rattle.table_expiry.specs.Expiry.{freshAt, lapsed, agedPeer, stillPeer, steadyIn, expired, oldestAt, stillFrom};
+ghost use Rattle.table_expiry.specs.Expiry.{freshAt, lapsed, agedPeer, expired, oldestAt, stillFrom};
 
 // The life time in milliseconds.
 const LIFE: u64 = 6000;
@@ -43,16 +42,6 @@ fn aged(p: Peer, time: u64) -> Peer
     p
 }
 
-// Whether nothing of the entry is old.
-fn still(p: Peer, time: u64) -> bool
-    ensures { λ r. ⌜ r ≡ stillPeer time p ⌝ }
-{
-    if fresh(time, p.accepted) {
-        return !lapse(p, time);
-    }
-    false
-}
-
 // The earliest time that is less than a life time before `time`.
 pub fn oldest(time: u64) -> u64
     ensures { λ r. ⌜ r ≡ oldestAt time ⌝ }
@@ -76,52 +65,36 @@ pub fn still_from(p: Peer, from: u64) -> bool
     true
 }
 
-fn steady(t: Table, time: u64) -> bool
-    ensures { λ r. ⌜ r ≡ steadyIn time (entries t) ⌝ }
-{
-    let peers = t.peers;
-    let n = base_facts::at_most(t.count, ROOM);
-    let mut i: usize = 0;
-    while i < n {
-        let p = peers[i];
-        if !still(p, time) {
-            return false;
-        }
-        i += 1;
-    }
-    true
-}
-
-// The entries that stay move up, without what is old of them, and what they leave is blank.
-fn rebuild(t: Table, time: u64) -> Table
+// Where nothing expires only the count may be another: one above 16 is 16. Else the entries that stay move up, without what is old
+// of them, and what they leave is blank.
+pub fn expire(t: Table, time: u64) -> Table
     ensures { λ r. ⌜ r ≡ expired time t ⌝ }
 {
-    let mut peers = t.peers;
-    let n = base_facts::at_most(t.count, ROOM);
-    let mut k: usize = 0;
+    let mut u = t;
+    let n = base_facts::at_most(u.count, ROOM);
+    let from = oldest(time);
+    let mut expires = false;
     let mut i: usize = 0;
     while i < n {
-        let p = peers[i];
-        peers[i] = table::blank();
+        let p = u.peers[i];
+        expires = base_facts::either(expires, !still_from(p, from));
+        i += 1;
+    }
+    if !expires {
+        u.count = n;
+        return u;
+    }
+    let mut k: usize = 0;
+    i = 0;
+    while i < n {
+        let p = u.peers[i];
+        u.peers[i] = table::blank();
         if fresh(time, p.accepted) {
-            peers[k] = aged(p, time);
+            u.peers[k] = aged(p, time);
             k += 1;
         }
         i += 1;
     }
-    Table { peers, count: k }
-}
-
-// Where nothing expires only the count may be another: one above 16 is 16.
-pub fn expire(t: Table, time: u64) -> Table
-    ensures { λ r. ⌜ r ≡ expired time t ⌝ }
-{
-    if steady(t, time) {
-        let peers = t.peers;
-        return Table {
-            peers,
-            count: base_facts::at_most(t.count, ROOM),
-        };
-    }
-    rebuild(t, time)
+    u.count = k;
+    u
 }

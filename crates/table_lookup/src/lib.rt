@@ -16,11 +16,10 @@ pub enum Held {
 pub fn look(t: Table, m: Mi) -> Held
     ensures { λ r. ⌜ r ≡ heldIn m t ⌝ }
 {
-    let peers = t.peers;
     let n = base_facts::at_most(t.count, ROOM);
     let mut i: usize = 0;
     while i < n {
-        let p = peers[i];
+        let p = t.peers[i];
         let q = p.mi;
         if base_mi::same_mi(m, q) {
             return Held::At(i, p);

@@ -90,8 +90,7 @@ first-24-requires c κs = search needs
 
 with-fresh-requires : tie.Need-with-fresh-requires
 unfolding agedTo
-with-fresh-requires c κs = let ne = eqb-false (c .before .before .before .before .before .before .before .before .before .before .before .before .before .before .before .before .before .before .args .p .kn) 4294967295 (check-passed (eqb (c .before .before .before .before .before .before .before .before .before .before .before .before .before .before .before .before .before .before .args .p .kn) 4294967295) (sym (c .before .before .before .fail-if4 .ensures) ∙ c .before .enum-told7 .given .1)) in
-    rw (c .before .before .before .before .before .before .before .before .before .aged-to .ensures) (omega arith)
+with-fresh-requires c κs = let ne = eqb-false (c .before .before .before .before .before .before .before .before .before .before .before .before .before .before .before .before .before .before .args .p .kn) 4294967295 (check-passed (eqb (c .before .before .before .before .before .before .before .before .before .before .before .before .before .before .before .before .before .before .args .p .kn) 4294967295) (sym (c .before .before .before .fail-if4 .ensures) ∙ c .before .enum-told7 .given .1)) in let fits = (c .before .before .before .before .before .before .before .before .before .before .before .before .before .before .before .before .before .before) .good .0 .1 .1 .1 .1 .1 .1 .1 .1 .1 .1 .1 .1 .1 .1 .0 in rw (c .before .before .before .before .before .before .before .before .before .aged-to .ensures) (omega arith)
 
 done-requires : tie.Need-done-requires
 done-requires c κs = search needs

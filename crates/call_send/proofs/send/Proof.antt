@@ -1,6 +1,7 @@
--- Each check's answer settles its fact, in the order 1, 14, 13; expiry keeps MN, so past 14 there is room to add 1, and the write's answer settles 13.
+-- Each check's answer settles its fact, in the order 1, 14, 13; past 14 there is room to add 1, and the write's answer settles 13.
+use Prim.Native.Nat.{_<_}
 use mathlib.Core.Bool.{true, false}
-use mathlib.Core.Path.{_≡_, sym, _∙_}
+use mathlib.Core.Path.{_≡_, sym, ap, _∙_}
 use lib.Dec.{eqb, ltb}
 use lib.ListN.{length}
 use denote.Ref.{now}
@@ -10,7 +11,7 @@ use Rattle.base_octets.specs.Run.{written}
 use Rattle.frame_writer.specs.Frame.{frameOf}
 use Rattle.participant.specs.Call.{fact1, agedTo}
 use Rattle.call_send.specs.Send.{frameAt, sendFacts, sentAt, sentOf, leftBy}
-use Rattle.call_send.proofs.Laws.{wrote-refused, wrote-octets}
+use Rattle.call_send.proofs.Laws.{wrote-refused, wrote-octets, counted, spoken}
 use native.Mathlib.Omega.{arith}
 use borrow.Author.Needs.{needs}
 use Rattle.call_send.proofs.send.Statement.{statement}
@@ -30,10 +31,7 @@ refused-requires c κs = search needs
 
 returns : tie.Need-returns
 unfolding sentOf leftBy sendFacts
-returns c =
-    let a = c .before .before .before .before .before .before .args in
-    let early = check-failed (fact1 (a .p) (a .time)) (sym (c .before .before .before .fail-if .ensures) ∙ c .before .enum-told2 .given .1) in
-    (c .refused .ensures ∙ rw early, rw early)
+returns c = let a = c .before .before .before .before .before .before .args in let early = check-failed (fact1 (a .p) (a .time)) (sym (c .before .before .before .fail-if .ensures) ∙ c .before .enum-told2 .given .1) in (c .refused .ensures ∙ rw early, rw early)
 
 fail-if-requires-2 : tie.Need-fail-if-requires-2
 fail-if-requires-2 c κs = search needs
@@ -49,24 +47,31 @@ refused-requires-2 c κs = search needs
 
 returns-2 : tie.Need-returns-2
 unfolding sentOf leftBy sendFacts
-returns-2 c =
-    let a = c .before .before .before .before .before .before .before .before .before .before .args in
-    let timely = check-passed (fact1 (a .p) (a .time)) (sym (c .before .before .before .before .before .before .before .fail-if .ensures) ∙ c .before .before .before .before .before .enum-told .given .1) in
-    let last = check-failed (eqb (a .p .mn) 4294967295) (sym (c .before .before .before .fail-if2 .ensures) ∙ c .before .enum-told4 .given .1) in
-    (c .refused2 .ensures ∙ rw (timely, last), rw (timely, last))
+returns-2 c = let a = c .before .before .before .before .before .before .before .before .before .before .args in let timely = check-passed (fact1 (a .p) (a .time)) (sym (c .before .before .before .before .before .before .before .fail-if .ensures) ∙ c .before .before .before .before .before .enum-told .given .1) in let last = check-failed (eqb (a .p .mn) 4294967295) (sym (c .before .before .before .fail-if2 .ensures) ∙ c .before .enum-told4 .given .1) in (c .refused2 .ensures ∙ rw (timely, last), rw (timely, last))
 
-aged-to-requires : tie.Need-aged-to-requires
-aged-to-requires c κs = search needs
+expire-requires : tie.Need-expire-requires
+expire-requires c κs = search needs
 
-message-requires : tie.Need-message-requires
-unfolding agedTo
-message-requires c κs =
-    let a = c .before .before .before .before .before .before .before .before .before .before .args in
-    let low = eqb-false (a .p .mn) 4294967295 (check-passed (eqb (a .p .mn) 4294967295) (sym (c .before .before .before .fail-if2 .ensures) ∙ c .before .enum-told3 .given .1)) in
-    rw (c .aged-to .ensures) (omega arith)
+own-rank-requires : tie.Need-own-rank-requires
+own-rank-requires c κs = search needs
 
-write-requires : tie.Need-write-requires
-write-requires c κs = search needs
+stand-requires : tie.Need-stand-requires
+stand-requires c κs = search needs
+
+hands-out-requires : tie.Need-hands-out-requires
+hands-out-requires c κs = search needs
+
+usage-requires : tie.Need-usage-requires
+usage-requires c κs = search needs
+
+sender-requires : tie.Need-sender-requires
+sender-requires c κs = let a = c .before .before .before .before .before .before .before .before .before .before .before .before .before .before .before .before .before .before .before .args in let low = eqb-false (a .p .mn) 4294967295 (check-passed (eqb (a .p .mn) 4294967295) (sym (c .before .before .before .before .before .before .before .before .before .before .before .before .fail-if2 .ensures) ∙ c .before .before .before .before .before .before .before .before .before .before .enum-told3 .given .1)) in let fits = (c .before .before .before .before .before .before .before .before .before .before .before .before .before .before .before .before .before .before .before) .good .0 .1 .1 .1 .1 .1 .0 in let less : a .p .mn < 4294967295 = omega arith in less
+
+sak-requires : tie.Need-sak-requires
+sak-requires c κs = search needs
+
+put-frame-requires : tie.Need-put-frame-requires
+put-frame-requires c κs = counted (c .before .before .before .before .before .before .before .before .before .before .before .before .before .before .before .before .before .before .before .before .before .before .args .p) (c .before .before .before .before .before .before .before .before .before .before .before .before .before .before .before .before .before .before .before .before .before .before .args .time) (c .before .before .before .before .before .before .before .before .before .before .before .before .before .before .before .before .before .before .before .before .before .before .args .latest-pn) (c .before .before .before .before .before .before .before .before .before .before .before .before .before .before .before .before .before .before .before .before .before .before .args .old-pn) (c .before .before .before .before .before .before .before .before .before .before .before .expire .result) (c .before .before .before .before .before .before .before .before .before .before .own-rank .result) (c .before .before .before .before .before .before .before .before .before .stand .result) (c .before .before .before .before .before .before .before .before .before .before .before .expire .ensures) (c .before .before .before .before .before .before .before .before .before .before .own-rank .ensures) (c .before .before .before .before .before .before .before .before .before .stand .ensures)
 
 enum-known-n : tie.Need-enum-known-n
 enum-known-n c = search needs
@@ -82,36 +87,17 @@ same-length c = search needs
 
 returns-3 : tie.Need-returns-3
 unfolding sentOf leftBy sendFacts sentAt frameAt written
-returns-3 c =
-    let a = c .before .before .before .before .before .before .before .before .before .before .before .before .before .before .before .before .before .before .args in
-    let f = frameAt (a .p) (a .time) (a .latest-pn) (a .old-pn) in
-    let l = now (a .out) in
-    let timely = check-passed (fact1 (a .p) (a .time)) (sym (c .before .before .before .before .before .before .before .before .before .before .before .before .before .before .before .fail-if .ensures) ∙ c .before .before .before .before .before .before .before .before .before .before .before .before .before .enum-told .given .1) in
-    let more = check-passed (eqb (a .p .mn) 4294967295) (sym (c .before .before .before .before .before .before .before .before .before .before .before .fail-if2 .ensures) ∙ c .before .before .before .before .before .before .before .before .before .enum-told3 .given .1) in
-    let e : frameOf (c .before .before .before .before .before .before .before .message .result) ≡ f = rw (c .before .before .before .before .before .before .before .message .ensures, c .before .before .before .before .before .before .before .before .aged-to .ensures) in
-    let short : ltb (length l) (length f) ≡ true = wrote-refused (length f) (length l) _ (rw e at (sym (c .before .before .before .before .before .write .ensures .0) ∙ c .before .enum-told5 .given .1)) in
-    (c .refused3 .ensures ∙ rw (timely, more, short), c .before .before .before .before .before .write .ensures .1 ∙ rw (timely, more, e, short))
+returns-3 c = let a = c .before .before .before .before .before .before .before .before .before .before .before .before .before .before .before .before .before .before .before .before .before .before .before .before .before .before .before .before .args in let timely = check-passed (fact1 (a .p) (a .time)) (sym (c .before .before .before .before .before .before .before .before .before .before .before .before .before .before .before .before .before .before .before .before .before .before .before .before .before .fail-if .ensures) ∙ c .before .before .before .before .before .before .before .before .before .before .before .before .before .before .before .before .before .before .before .before .before .before .before .enum-told .given .1) in let more = check-passed (eqb (a .p .mn) 4294967295) (sym (c .before .before .before .before .before .before .before .before .before .before .before .before .before .before .before .before .before .before .before .before .before .fail-if2 .ensures) ∙ c .before .before .before .before .before .before .before .before .before .before .before .before .before .before .before .before .before .before .before .enum-told3 .given .1) in let f = frameAt (a .p) (a .time) (a .latest-pn) (a .old-pn) in let l = now (a .out) in let e = ap frameOf (spoken (c .before .before .before .before .before .before .before .before .before .before .before .before .before .before .before .before .before .before .before .before .before .before .before .before .before .before .before .before .args .p) (c .before .before .before .before .before .before .before .before .before .before .before .before .before .before .before .before .before .before .before .before .before .before .before .before .before .before .before .before .args .time) (c .before .before .before .before .before .before .before .before .before .before .before .before .before .before .before .before .before .before .before .before .before .before .before .before .before .before .before .before .args .latest-pn) (c .before .before .before .before .before .before .before .before .before .before .before .before .before .before .before .before .before .before .before .before .before .before .before .before .before .before .before .before .args .old-pn) (c .before .before .before .before .before .before .before .before .before .before .before .before .before .before .before .before .before .expire .result) (c .before .before .before .before .before .before .before .before .before .before .before .before .before .before .before .before .own-rank .result) (c .before .before .before .before .before .before .before .before .before .before .before .before .before .before .before .stand .result) (c .before .before .before .before .before .before .before .before .before .before .before .before .before .before .before .before .before .expire .ensures) (c .before .before .before .before .before .before .before .before .before .before .before .before .before .before .before .before .own-rank .ensures) (c .before .before .before .before .before .before .before .before .before .before .before .before .before .before .before .stand .ensures) (c .before .before .before .before .before .before .before .before .sender .result) (c .before .before .before .before .before .before .before .before .before .before .usage .result) (c .before .before .before .before .before .before .before .before .before .before .before .hands-out .result) (c .before .before .before .before .before .before .before .sak .result) (c .before .before .before .before .before .before .before .before .sender .ensures) (c .before .before .before .before .before .before .before .before .before .before .usage .ensures) (c .before .before .before .before .before .before .before .before .before .before .before .hands-out .ensures) (c .before .before .before .before .before .before .before .sak .ensures)) in let short : ltb (length l) (length f) ≡ true = wrote-refused (length f) (length l) _ (rw e at (sym (c .before .before .before .before .before .put-frame .ensures .0) ∙ c .before .enum-told5 .given .1)) in (c .refused3 .ensures ∙ rw (timely, more, short), c .before .before .before .before .before .put-frame .ensures .1 ∙ rw (timely, more, e, short))
 
-add-s : tie.Need-add-s
-add-s c =
-    let a = c .before .before .before .before .before .before .before .before .before .before .before .before .before .before .before .before .before .before .before .args in
-    let low = eqb-false (a .p .mn) 4294967295 (check-passed (eqb (a .p .mn) 4294967295) (sym (c .before .before .before .before .before .before .before .before .before .before .before .before .fail-if2 .ensures) ∙ c .before .before .before .before .before .before .before .before .before .before .enum-told3 .given .1)) in
-    search needs
+add-q : tie.Need-add-q
+add-q c = let a = c .before .before .before .before .before .before .before .before .before .before .before .before .before .before .before .before .before .before .before .before .before .before .before .before .before .before .before .before .before .args in let low = eqb-false (a .p .mn) 4294967295 (check-passed (eqb (a .p .mn) 4294967295) (sym (c .before .before .before .before .before .before .before .before .before .before .before .before .before .before .before .before .before .before .before .before .before .before .fail-if2 .ensures) ∙ c .before .before .before .before .before .before .before .before .before .before .before .before .before .before .before .before .before .before .before .before .enum-told3 .given .1)) in search needs
 
 same-length-2 : tie.Need-same-length-2
 same-length-2 c = search needs
 
 returns-4 : tie.Need-returns-4
-unfolding sentOf leftBy sendFacts sentAt frameAt written
-returns-4 c =
-    let a = c .before .before .before .before .before .before .before .before .before .before .before .before .before .before .before .before .before .before .before .args in
-    let f = frameAt (a .p) (a .time) (a .latest-pn) (a .old-pn) in
-    let l = now (a .out) in
-    let timely = check-passed (fact1 (a .p) (a .time)) (sym (c .before .before .before .before .before .before .before .before .before .before .before .before .before .before .before .before .fail-if .ensures) ∙ c .before .before .before .before .before .before .before .before .before .before .before .before .before .before .enum-told .given .1) in
-    let more = check-passed (eqb (a .p .mn) 4294967295) (sym (c .before .before .before .before .before .before .before .before .before .before .before .before .fail-if2 .ensures) ∙ c .before .before .before .before .before .before .before .before .before .before .enum-told3 .given .1) in
-    let e : frameOf (c .before .before .before .before .before .before .before .before .message .result) ≡ f = rw (c .before .before .before .before .before .before .before .before .message .ensures, c .before .before .before .before .before .before .before .before .before .aged-to .ensures) in
-    let room : (ltb (length l) (length f) ≡ false) × (length f ≡ c .before .before .n .given .0 .0) = wrote-octets (length f) (length l) _ (rw e at (sym (c .before .before .before .before .before .before .write .ensures .0) ∙ c .before .before .n .given .1)) in
-    (rw (timely, more, room .0, room .1, c .before .before .before .before .before .before .before .before .before .aged-to .ensures), c .before .before .before .before .before .before .write .ensures .1 ∙ rw (timely, more, e, room .0))
+unfolding sentOf leftBy sendFacts sentAt frameAt agedTo written
+returns-4 c = let a = c .before .before .before .before .before .before .before .before .before .before .before .before .before .before .before .before .before .before .before .before .before .before .before .before .before .before .before .before .before .args in let timely = check-passed (fact1 (a .p) (a .time)) (sym (c .before .before .before .before .before .before .before .before .before .before .before .before .before .before .before .before .before .before .before .before .before .before .before .before .before .before .fail-if .ensures) ∙ c .before .before .before .before .before .before .before .before .before .before .before .before .before .before .before .before .before .before .before .before .before .before .before .before .enum-told .given .1) in let more = check-passed (eqb (a .p .mn) 4294967295) (sym (c .before .before .before .before .before .before .before .before .before .before .before .before .before .before .before .before .before .before .before .before .before .before .fail-if2 .ensures) ∙ c .before .before .before .before .before .before .before .before .before .before .before .before .before .before .before .before .before .before .before .before .enum-told3 .given .1) in let f = frameAt (a .p) (a .time) (a .latest-pn) (a .old-pn) in let l = now (a .out) in let e = ap frameOf (spoken (c .before .before .before .before .before .before .before .before .before .before .before .before .before .before .before .before .before .before .before .before .before .before .before .before .before .before .before .before .before .args .p) (c .before .before .before .before .before .before .before .before .before .before .before .before .before .before .before .before .before .before .before .before .before .before .before .before .before .before .before .before .before .args .time) (c .before .before .before .before .before .before .before .before .before .before .before .before .before .before .before .before .before .before .before .before .before .before .before .before .before .before .before .before .before .args .latest-pn) (c .before .before .before .before .before .before .before .before .before .before .before .before .before .before .before .before .before .before .before .before .before .before .before .before .before .before .before .before .before .args .old-pn) (c .before .before .before .before .before .before .before .before .before .before .before .before .before .before .before .before .before .before .expire .result) (c .before .before .before .before .before .before .before .before .before .before .before .before .before .before .before .before .before .own-rank .result) (c .before .before .before .before .before .before .before .before .before .before .before .before .before .before .before .before .stand .result) (c .before .before .before .before .before .before .before .before .before .before .before .before .before .before .before .before .before .before .expire .ensures) (c .before .before .before .before .before .before .before .before .before .before .before .before .before .before .before .before .before .own-rank .ensures) (c .before .before .before .before .before .before .before .before .before .before .before .before .before .before .before .before .stand .ensures) (c .before .before .before .before .before .before .before .before .before .sender .result) (c .before .before .before .before .before .before .before .before .before .before .before .usage .result) (c .before .before .before .before .before .before .before .before .before .before .before .before .hands-out .result) (c .before .before .before .before .before .before .before .before .sak .result) (c .before .before .before .before .before .before .before .before .before .sender .ensures) (c .before .before .before .before .before .before .before .before .before .before .before .usage .ensures) (c .before .before .before .before .before .before .before .before .before .before .before .before .hands-out .ensures) (c .before .before .before .before .before .before .before .before .sak .ensures)) in let room : (ltb (length l) (length f) ≡ false) × (length f ≡ c .before .before .n .given .0 .0) = wrote-octets (length f) (length l) _ (rw e at (sym (c .before .before .before .before .before .before .put-frame .ensures .0) ∙ c .before .before .n .given .1)) in (rw (timely, more, room .0, room .1, c .before .before .before .before .before .before .before .before .before .before .before .before .before .before .before .before .before .before .expire .ensures), c .before .before .before .before .before .before .put-frame .ensures .1 ∙ rw (timely, more, e, room .0))
 
 pub send-spec : {M : Type 1} → statement M
 send-spec =
@@ -127,14 +113,19 @@ send-spec =
     enum-told-4
     refused-requires-2
     returns-2
-    aged-to-requires
-    message-requires
-    write-requires
+    expire-requires
+    own-rank-requires
+    stand-requires
+    hands-out-requires
+    usage-requires
+    sender-requires
+    sak-requires
+    put-frame-requires
     enum-known-n
     enum-told-5
     refused-requires-3
     same-length
     returns-3
-    add-s
+    add-q
     same-length-2
     returns-4)

@@ -1,7 +1,8 @@
 -- The match goes by the definition's cases.
 use mathlib.Core.Path.{sym, _∙_}
 use mathlib.Core.Path.{ap}
-use Rattle.call_standing.specs.Standing.{electedSelf, isOurs}
+use Rattle.table_election.specs.Stand.{isOurs}
+use Rattle.call_standing.specs.Standing.{electedSelf}
 use borrow.Author.Needs.{needs}
 use Rattle.call_standing.proofs.elected_self.Statement.{statement}
 use Rattle.call_standing.proofs.elected_self.Tie as tie

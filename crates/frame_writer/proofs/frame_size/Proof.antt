@@ -1,21 +1,9 @@
 -- The parts' lengths, summed.
-use Prim.Native.Nat.{ℕ}
-use mathlib.Core.Path.{_≡_, sym, _∙_}
 use native.Mathlib.Omega.{arith}
-use lib.ListN.{length}
-use borrow.Author.Needs.{length-unmapped, needs}
-use Rattle.base_mi.specs.Entry.{entriesOf}
-use Rattle.frame_writer.specs.Frame.{usePart, sakPart, listSet, cknOf}
-use Rattle.frame_writer.proofs.Laws.{length-cknOf, body-le, length-basic, length-listSet, length-usePart, length-sakPart, length-body, length-frame, body-ge}
+use borrow.Author.Needs.{needs}
+use Rattle.frame_writer.specs.Frame.{frameSize}
 use Rattle.frame_writer.proofs.frame_size.Statement.{statement}
 use Rattle.frame_writer.proofs.frame_size.Tie as tie
-
-ckn-long : (c : tie.Start) → length (c .args .m .sender .ckn) ≡ 32
-ckn-long c = search needs
-
--- what owning the frame's value tells of its seventh field's fourth
-wrapped-long : (c : tie.Start) → length (c .args .m .sak .wrapped) ≡ 24
-wrapped-long c = length-unmapped ℕ (c .args .m .sak .wrapped) 24 (c .good .0 .1 .1 .1 .1 .1 .1 .1 .1 .0 .1 .1 .1 .1 .1 .0 .1 .0 .1)
 
 at-most-requires : tie.Need-at-most-requires
 at-most-requires c κs = search needs
@@ -44,6 +32,9 @@ size-if-requires c κs = search needs
 size-if-requires-2 : tie.Need-size-if-requires-2
 size-if-requires-2 c κs = search needs
 
+add-keys : tie.Need-add-keys
+add-keys c = search needs
+
 add-result : tie.Need-add-result
 add-result c = search needs
 
@@ -53,26 +44,15 @@ add-result-2 c = search needs
 add-result-3 : tie.Need-add-result-3
 add-result-3 c = search needs
 
-add-result-4 : tie.Need-add-result-4
-add-result-4 c = search needs
-
 returns : tie.Need-returns
+unfolding frameSize
 returns c =
-    let first = c .before .before .before .before in
-    let start = first .before .before .before .before in
-    let m = start .args .m in
-    let x = m .sender in
-    let es = entriesOf (m .potential) in
-    let w = wrapped-long start in
-    let n : length (cknOf x) ≡ first .at-most .result = length-cknOf x (ckn-long start) ∙ omega (arith, first .at-most .ensures) in
-    let l : c .before .before .before .list-size .result ≡ length (listSet 1 (entriesOf (m .live))) = c .before .before .before .list-size .ensures .0 in
-    let p : c .before .before .list-size2 .result ≡ length (listSet 2 es) = c .before .before .list-size2 .ensures .0 ∙ length-listSet 1 es ∙ sym (length-listSet 2 es) in
-    let u : c .before .size-if .result ≡ length (usePart (m .used) (m .usage)) = c .before .size-if .ensures .0 ∙ sym (length-usePart (m .used) (m .usage)) in
-    let s : c .size-if2 .result ≡ length (sakPart (m .distributed) (m .sak)) = c .size-if2 .ensures .0 ∙ sym (length-sakPart (m .distributed) (m .sak) w) in
-    let f = length-frame m in
-    let b = length-body m in
-    let h = length-basic x in
-    (omega arith, (omega (arith, body-ge m), omega (arith, body-le m w)))
+    let n = c .before .before .before .before .at-most .ensures in
+    let l = c .before .before .before .list-size .ensures in
+    let p = c .before .before .list-size2 .ensures in
+    let u = c .before .size-if .ensures in
+    let s = c .size-if2 .ensures in
+    omega arith
 
 pub frame-size-spec : {M : Type 1} → statement M
 frame-size-spec =
@@ -87,8 +67,8 @@ frame-size-spec =
     add-lists
     size-if-requires
     size-if-requires-2
+    add-keys
     add-result
     add-result-2
     add-result-3
-    add-result-4
     returns)

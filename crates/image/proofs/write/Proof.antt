@@ -18,7 +18,7 @@ use Rattle.image.proofs.write.Statement.{statement}
 use Rattle.image.proofs.write.Tie as tie
 
 sized : (c : tie.Start) → length (c .args .p .table .peers) ≡ 16
-sized c = sym (length-map (c .args .p .table .peers) _) ∙ c .good .1 .0 .1 .1 .1 .1 .1 .1 .1 .1 .1 .1 .1 .1 .1 .1 .1 .1 .0 .1 .1 .0 .1 .0 .1
+sized c = sym (length-map (c .args .p .table .peers) _) ∙ c .good .1 .0 .1 .1 .0 .1 .1 .0 .1 .0 .1
 
 -- what is known where the length is, in the participant's terms
 known : (size : tie.After-key-size2)
@@ -28,8 +28,8 @@ known : (size : tie.After-key-size2)
 known size =
     let start = size .before .before .before .before .before .before .before in
     let p = start .args .p in
-    let ckn : length (p .ckn) ≡ 32 = let h = start .good .1 .0 .1 .1 .1 .1 .1 .1 .1 .1 .1 .1 .1 .1 .1 .1 .0 in search needs in
-    let wrapped : length (p .wrapped) ≡ 24 = let h = start .good .1 .0 .1 .1 .1 .1 .1 .1 .1 .1 .1 .1 .1 .1 .1 .1 .1 .0 in search needs in
+    let ckn : length (p .ckn) ≡ 32 = let h = start .good .1 .0 .1 .1 .1 .1 .1 .1 .1 .1 .0 in search needs in
+    let wrapped : length (p .wrapped) ≡ 24 = let h = start .good .1 .0 .1 .1 .1 .1 .1 .1 .1 .1 .1 .1 .1 .1 .1 .1 .1 .1 .0 in search needs in
     let many : length (entries (p .table)) ≡ size .before .before .at-most .result = length-entries (p .table) (sized start) ∙ sym (size .before .before .at-most .ensures) in
     let long = length-image p (size .before .before .at-most .result) ckn wrapped many in
     let latest = size .before .key-size .ensures in

@@ -35,7 +35,7 @@ add-put-all-2 : tie.Need-add-put-all-2
 add-put-all-2 c = search needs
 
 slice-aggregate-put-all-2 : tie.Need-slice-aggregate-put-all-2
-slice-aggregate-put-all-2 c = let g = c .before .before .before .before .before .before .before .before .before .before .before .before .before .before .before .good .1 .1 .0 .1 .1 .1 .1 .1 .1 .1 .1 .1 .1 .1 .1 .1 .1 .1 .0 in search needs
+slice-aggregate-put-all-2 c = let g = c .before .before .before .before .before .before .before .before .before .before .before .before .before .before .before .good .1 .1 .0 .1 .1 .1 .1 .1 .1 .1 .1 .1 .1 .1 .1 .1 .1 .1 .1 .0 in search needs
 
 put-all-requires-2 : tie.Need-put-all-requires-2
 put-all-requires-2 c κs = search needs
@@ -48,7 +48,7 @@ unfolding keptOctets
 returns c =
     let a = c .before .before .before .before .before .before .before .before .before .before .before .before .before .before .before .before .before .before .args in
     let p = a .p in
-    let g = c .before .before .before .before .before .before .before .before .before .before .before .before .before .before .before .before .before .before .good .1 .1 .0 .1 .1 .1 .1 .1 .1 .1 .1 .1 .1 .1 .1 .1 .1 .0 in let n : length (p .ckn) ≡ 32 = search needs in
+    let g = c .before .before .before .before .before .before .before .before .before .before .before .before .before .before .before .before .before .before .good .1 .1 .0 .1 .1 .1 .1 .1 .1 .1 .1 .0 in let n : length (p .ckn) ≡ 32 = search needs in
     sets-on (now (a .out)) (c .before .before .before .before .before .before .before .before .before .before .before .before .put-u32 .last .0) (c .before .before .put-all2 .last .0) (a .at) ((a .at) + 4) (beOf 4 (min (p .size) 32)) (p .ckn ++ (p .wrapped)) (omega (arith, length-beOf 4 (min (p .size) 32))) (c .before .before .before .before .before .before .before .before .before .before .before .before .put-u32 .ensures ∙ ap (λ (z : ℕ). sets (now (a .out)) (a .at) (beOf 4 z)) (c .before .before .before .before .before .before .before .before .before .before .before .before .before .at-most .ensures))
     (sets-on (c .before .before .before .before .before .before .before .before .before .before .before .before .put-u32 .last .0) (c .before .before .before .before .before .before .before .put-all .last .0) (c .before .before .put-all2 .last .0) ((a .at) + 4) ((a .at) + 36) (p .ckn) (p .wrapped) (omega arith) (c .before .before .before .before .before .before .before .put-all .ensures)
     (c .before .before .put-all2 .ensures))

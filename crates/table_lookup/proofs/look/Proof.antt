@@ -10,13 +10,13 @@ use Rattle.table_lookup.proofs.look.Statement.{statement}
 use Rattle.table_lookup.proofs.look.Tie as tie
 
 abbrev Inv-loop : tie.InvT-loop
-Inv-loop m peers n i₀ i = (i ≤ n) × (seek m i (drop i (take n peers)) ≡ seek m 0 (take n peers))
+Inv-loop m t n i₀ i = (i ≤ n) × (seek m i (drop i (take n (t .peers))) ≡ seek m 0 (take n (t .peers)))
 
 abbrev μ-loop : tie.MeasureT-loop
-μ-loop m peers n i₀ i = n - i
+μ-loop m t n i₀ i = n - i
 
-sized : (c : tie.Start Inv-loop μ-loop) → length (c .args .t .peers) ≡ 16
-sized c = sym (length-map (c .args .t .peers) _) ∙ c .good .0 .1 .1 .0 .1 .0 .1
+sized : (c : tie.Start Inv-loop μ-loop) → length (c .args .t1 .peers) ≡ 16
+sized c = sym (length-map (c .args .t1 .peers) _) ∙ c .good .0 .1 .1 .0 .1 .0 .1
 
 at-most-requires : tie.Need-at-most-requires Inv-loop μ-loop
 at-most-requires c κs = search needs
@@ -27,8 +27,8 @@ loop-holds c = search needs
 mul-p : tie.Need-mul-p Inv-loop μ-loop
 mul-p c = search needs
 
-array-copy-out-p : tie.Need-array-copy-out-p Inv-loop μ-loop
-array-copy-out-p c = search needs
+element-copy-out-p : tie.Need-element-copy-out-p Inv-loop μ-loop
+element-copy-out-p c = search needs
 
 same-mi-requires : tie.Need-same-mi-requires Inv-loop μ-loop
 same-mi-requires c κs = search needs
@@ -38,8 +38,8 @@ unfolding heldIn
 returns c =
     let i = c .before .before .before .before in
     let l = i .before in
-    let s = l .before .before .before in
-    let e = loop-next (l .before .at-most .result) (l .loop .i) (s .args .t .peers) (s .args .t .count) blankPeer (sized s) (l .before .at-most .ensures) (i .loop-test .taken) in
+    let s = l .before .before in
+    let e = loop-next (l .before .at-most .result) (l .loop .i) (s .args .t1 .peers) (s .args .t1 .count) blankPeer (sized s) (l .before .at-most .ensures) (i .loop-test .taken) in
     rw (e, sym (c .before .same-mi .ensures) ∙ c .if1 .taken, l .before .at-most .ensures) at (l .loop .inv .1)
 
 add-i : tie.Need-add-i Inv-loop μ-loop
@@ -52,15 +52,15 @@ loop-again : tie.Need-loop-again Inv-loop μ-loop
 loop-again c =
     let i = c .before .before .before .before in
     let l = i .before in
-    let s = l .before .before .before in
-    let e = loop-next (l .before .at-most .result) (l .loop .i) (s .args .t .peers) (s .args .t .count) blankPeer (sized s) (l .before .at-most .ensures) (i .loop-test .taken) in
+    let s = l .before .before in
+    let e = loop-next (l .before .at-most .result) (l .loop .i) (s .args .t1 .peers) (s .args .t1 .count) blankPeer (sized s) (l .before .at-most .ensures) (i .loop-test .taken) in
     (search needs, rw (e, sym (c .before .same-mi .ensures) ∙ c .if1 .left) at (l .loop .inv .1))
 
 returns-2 : tie.Need-returns-2 Inv-loop μ-loop
 unfolding heldIn
 returns-2 c =
     let l = c .before in
-    rw (drop-end _ (l .loop .i) (c .before .before .before .before .args .t .peers) (c .loop-test .left), l .before .at-most .ensures) at (l .loop .inv .1)
+    rw (drop-end _ (l .loop .i) (c .before .before .before .args .t1 .peers) (c .loop-test .left), l .before .at-most .ensures) at (l .loop .inv .1)
 
 pub look-spec : {M : Type 1} → statement M
 look-spec =
@@ -71,7 +71,7 @@ look-spec =
     at-most-requires
     loop-holds
     mul-p
-    array-copy-out-p
+    element-copy-out-p
     same-mi-requires
     returns
     add-i

@@ -1,11 +1,13 @@
 // A fact's answer, to be taken apart by `let .. else`, and small sums that never wrap.
+#![tactic(auto)]
+
 ghost use Rattle.std.specs.Prelude.{◌≡◌, ◌||◌, ◌-◌, min};
 ghost use Rattle.base_facts.specs.Facts.{check_of, padded_of};
 
 // The algorithm agility, 00-80-C2-01.
 pub const AGILITY: u32 = 0x0080_c201;
 
-#[derive(Drop)]
+#[derive(Clone, Copy)]
 pub enum Check {
     Passed,
     Failed,

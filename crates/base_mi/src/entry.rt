@@ -7,7 +7,7 @@ ghost use Rattle.base_mi.specs.Entry.{cut_at, entry_at, entry_octets};
 use crate::Mi;
 
 #[repr(C)]
-#[derive(Drop)]
+#[derive(Clone, Copy)]
 pub struct Entry {
     pub mi: Mi,
     pub mn: u32,
@@ -15,7 +15,7 @@ pub struct Entry {
 
 // The first `count` entries; a count above 16 is taken as 16.
 #[repr(C)]
-#[derive(Drop)]
+#[derive(Clone, Copy)]
 pub struct Entries {
     pub entries: [Entry; 16],
     pub count: usize,

@@ -1,4 +1,6 @@
 // A member identifier: 12 octets, as the number of the first 8 and that of the last 4. Beside it the entries of a peer list.
+#![tactic(auto)]
+
 ghost use Rattle.std.specs.Prelude.{◌≡◌};
 ghost use Rattle.std.proofs.lemmas.List.Edits.{sets};
 ghost use Rattle.base_mi.specs.Mi.{mi_at, mi_octets, mi_same};
@@ -6,7 +8,7 @@ ghost use Rattle.base_mi.specs.Mi.{mi_at, mi_octets, mi_same};
 pub mod entry;
 
 #[repr(C)]
-#[derive(Drop)]
+#[derive(Clone, Copy)]
 pub struct Mi {
     pub hi: u64,
     pub lo: u32,

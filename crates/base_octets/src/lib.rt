@@ -1,5 +1,7 @@
 // Big-endian numbers at a place of a slice, read and written. Total: past the end an octet reads
 // as 0 and is not written.
+#![tactic(auto)]
+
 ghost use Rattle.std.specs.Prelude.{◌≡◌, ◌+◌, ◌≤◌, get_or, length, set};
 ghost use Rattle.std.proofs.lemmas.List.Edits.{sets};
 ghost use Rattle.base_octets.specs.Number.{be_at, be_of};

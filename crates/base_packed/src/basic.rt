@@ -5,7 +5,7 @@ ghost use Rattle.base_packed.specs.Basic.{flags_of, octet_of};
 use crate::bit;
 
 // `high` holds the high four bits of the set's length.
-#[derive(Drop)]
+#[derive(Clone, Copy)]
 pub struct Flags {
     pub server: bool,
     pub desired: bool,

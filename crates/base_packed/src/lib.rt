@@ -1,4 +1,6 @@
 // Octets that hold several fields, packed and taken apart by shifts and masks.
+#![tactic(auto)]
+
 pub mod basic;
 pub mod bit;
 pub mod sak;

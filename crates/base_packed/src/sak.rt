@@ -2,7 +2,7 @@
 ghost use Rattle.std.specs.Prelude.{◌≡◌};
 ghost use Rattle.base_packed.specs.Sak.{sak_flags_of, sak_octet};
 
-#[derive(Drop)]
+#[derive(Clone, Copy)]
 pub struct SakFlags {
     pub an: u8,
     pub confidentiality: u8,

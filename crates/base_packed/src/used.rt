@@ -4,14 +4,14 @@ ghost use Rattle.base_packed.specs.Used.{key_flags_of, key_nibble, used_of, used
 
 use crate::bit;
 
-#[derive(Drop)]
+#[derive(Clone, Copy)]
 pub struct KeyFlags {
     pub an: u8,
     pub transmit: bool,
     pub receive: bool,
 }
 
-#[derive(Drop)]
+#[derive(Clone, Copy)]
 pub struct Used {
     pub latest: KeyFlags,
     pub old: KeyFlags,

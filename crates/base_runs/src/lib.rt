@@ -1,4 +1,6 @@
 // Runs of octets: stored, and handed back.
+#![tactic(auto)]
+
 ghost use Rattle.std.specs.Prelude.{◌≡◌, replicate};
 ghost use Rattle.std.proofs.lemmas.List.Edits.{sets};
 ghost use Rattle.base_octets.specs.Run.{part_of};

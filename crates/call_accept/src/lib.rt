@@ -1,4 +1,6 @@
 // What receiving answers, and what a frame says of its sender. The definitions say what a good frame makes of the participant.
+#![tactic(auto)]
+
 ghost use Rattle.std.specs.Prelude.{◌≡◌};
 ghost use Rattle.call_accept.specs.Accept.{heard_of, refused_of, accepted_of};
 
@@ -7,13 +9,13 @@ use participant::Participant;
 use table_enter::Heard;
 
 // The wrapped key's place and length, 0 and 0 if no key was entered.
-#[derive(Drop)]
+#[derive(Clone, Copy)]
 pub enum Answer {
     Accepted(usize, usize),
     Refused(u8),
 }
 
-#[derive(Drop)]
+#[derive(Clone, Copy)]
 pub struct Received {
     pub participant: Participant,
     pub answer: Answer,

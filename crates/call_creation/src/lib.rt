@@ -1,4 +1,6 @@
 // Creating a participant: refusal 15.
+#![tactic(auto)]
+
 ghost use Rattle.std.specs.Prelude.{◌≡◌};
 ghost use Rattle.call_creation.specs.Create.{empty_participant, bad_start, fresh, created_of};
 ghost use Rattle.participant.specs.Record.{first32};

@@ -1,4 +1,6 @@
 // Distributing a fresh SAK: refusals 1, 15, 17, 14.
+#![tactic(auto)]
+
 ghost use Rattle.std.specs.Prelude.{◌≡◌, ◌<◌};
 ghost use Rattle.participant.specs.Record.{first24};
 ghost use Rattle.call_distribute.specs.Distribute.{next_an, confidentiality_of, fresh_key, with_fresh, distributed_of};

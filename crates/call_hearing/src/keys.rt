@@ -10,7 +10,7 @@ use participant::{Key, Slot, keys};
 use table_election::Server;
 
 // What the two keys on record become, and the wrapped key's place and length, 0 and 0 if no key was entered.
-#[derive(Drop)]
+#[derive(Clone, Copy)]
 pub struct Taken {
     pub latest: Slot,
     pub old: Slot,

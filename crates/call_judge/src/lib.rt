@@ -1,4 +1,6 @@
 // What a received frame is refused for before the table is asked, facts 1 to 9: the time, the frame and its verdict.
+#![tactic(auto)]
+
 ghost use Rattle.std.specs.Prelude.{◌≡◌, not, [], ◌∷◌};
 ghost use Rattle.base_facts.specs.Facts.{first_of};
 ghost use Rattle.frame.specs.Ours.{fact6, fact7};
@@ -10,7 +12,7 @@ use frame_places::Places;
 use frame_walk::Walked;
 use participant::Participant;
 
-#[derive(Drop)]
+#[derive(Clone, Copy)]
 pub enum Judged {
     Good(Basic, Places),
     Refused(u8),

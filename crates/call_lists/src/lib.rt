@@ -1,4 +1,6 @@
 // A peer list of a frame, written straight from the table.
+#![tactic(auto)]
+
 ghost use Rattle.std.specs.Prelude.{◌≡◌, ◌+◌, length};
 ghost use Rattle.std.proofs.lemmas.List.Edits.{sets};
 ghost use Rattle.call_lists.specs.Lists.{list_type, peer_list};

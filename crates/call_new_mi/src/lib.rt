@@ -1,4 +1,6 @@
 // Taking a new MI: refusals 1, 19.
+#![tactic(auto)]
+
 ghost use Rattle.std.specs.Prelude.{◌≡◌};
 ghost use Rattle.call_new_mi.specs.Renew.{in_use, renewed, new_mi_of};
 

@@ -1,4 +1,6 @@
 // The questions, which go by the clock and change nothing.
+#![tactic(auto)]
+
 ghost use Rattle.std.specs.Prelude.{◌≡◌};
 ghost use Rattle.call_questions.specs.Ask.{at_clock, asked_server, asked_elected, asked_fresh, asked_live, asked_potential, asked_lives, asked_potentials, hello_due};
 

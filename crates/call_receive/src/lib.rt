@@ -1,4 +1,6 @@
 // Receiving a frame: refusals 1 to 12, and else what an accepted one makes of the participant.
+#![tactic(auto)]
+
 ghost use Rattle.std.specs.Prelude.{◌≡◌};
 ghost use Rattle.call_receive.specs.Receive.{refusal_of, received_of};
 

@@ -1,4 +1,6 @@
 // An installation report: refusal 18.
+#![tactic(auto)]
+
 ghost use Rattle.std.specs.Prelude.{◌≡◌};
 ghost use Rattle.call_report.specs.Report.{misreported, installed, reported};
 

@@ -1,4 +1,6 @@
 // Sending a frame, refusals 1, 14, 13: the frame that a participant's state makes, written into lent octets.
+#![tactic(auto)]
+
 ghost use Rattle.std.specs.Prelude.{◌≡◌, length};
 ghost use Rattle.call_send.specs.Send.{refused_of, sent_of, left_by};
 
@@ -10,13 +12,13 @@ mod message;
 mod writing;
 
 // The frame's length.
-#[derive(Drop)]
+#[derive(Clone, Copy)]
 pub enum Answer {
     Octets(usize),
     Refused(u8),
 }
 
-#[derive(Drop)]
+#[derive(Clone, Copy)]
 pub struct Sent {
     pub participant: Participant,
     pub answer: Answer,

@@ -1,4 +1,6 @@
 // What is asked of the table as it stands: by the calls, once it is expired to their time.
+#![tactic(auto)]
+
 ghost use Rattle.std.specs.Prelude.{◌≡◌};
 ghost use Rattle.call_standing.specs.Standing.{own_rank, server_of, elected_self, pause_over, fresh_due};
 

@@ -1,4 +1,6 @@
 // Time passes: refusal 1.
+#![tactic(auto)]
+
 ghost use Rattle.std.specs.Prelude.{◌≡◌};
 ghost use Rattle.call_tick.specs.Tick.{ticked};
 

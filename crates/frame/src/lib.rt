@@ -1,4 +1,6 @@
 // The EAPOL header and the Basic set of a frame: facts 2 to 5 in their order, and what the Basic set says. Beside it facts 6 and 7.
+#![tactic(auto)]
+
 ghost use Rattle.std.specs.Prelude.{◌≡◌, [], ◌∷◌};
 ghost use Rattle.base_facts.specs.Facts.{check_of, first_of};
 ghost use Rattle.frame.specs.Basic.{length_of, fact3, fact4, fact5, basic_len, basic_fields, basic_of};
@@ -8,14 +10,14 @@ use base_mi::Mi;
 
 pub mod ours;
 
-#[derive(Drop)]
+#[derive(Clone, Copy)]
 enum Length {
     Octets(usize),
     Short,
 }
 
 // `size` is the length of the CKN, which stands at 36; `next` the first further set's place; `stop` the ICV's, 4 + body - 16, where the sets end.
-#[derive(Drop)]
+#[derive(Clone, Copy)]
 pub struct Basic {
     pub version: u8,
     pub priority: u8,
@@ -31,7 +33,7 @@ pub struct Basic {
     pub stop: usize,
 }
 
-#[derive(Drop)]
+#[derive(Clone, Copy)]
 pub enum BasicRead {
     Read(Basic),
     Refused(u8),

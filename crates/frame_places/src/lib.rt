@@ -1,16 +1,18 @@
 // Where the sets of types 1 to 4 stand, each at most once.
+#![tactic(auto)]
+
 ghost use Rattle.std.specs.Prelude.{◌≡◌};
 ghost use Rattle.frame_places.specs.Once.{holds, places_with, absent_spot, no_places};
 
 // A set's header's place and its body's length; zeros where it is absent.
-#[derive(Drop)]
+#[derive(Clone, Copy)]
 pub struct Spot {
     pub present: bool,
     pub place: usize,
     pub len: u16,
 }
 
-#[derive(Drop)]
+#[derive(Clone, Copy)]
 pub struct Places {
     pub live: Spot,
     pub potential: Spot,

@@ -1,4 +1,6 @@
 // A reader over one frame, which remembers its position and hands out the further sets one by one, as the walk goes over them.
+#![tactic(auto)]
+
 ghost use Rattle.std.specs.Prelude.{◌≡◌};
 ghost use Rattle.frame_reader.specs.Reader.{next_of, reader_over, moved, first_next};
 
@@ -6,7 +8,7 @@ use crate::step::{Next, Position};
 
 pub mod step;
 
-#[derive(Drop)]
+#[derive(Clone, Copy)]
 pub struct Reader<'a> {
     pub frame: &'a [u8],
     pub position: Position,

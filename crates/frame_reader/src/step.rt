@@ -8,7 +8,7 @@ use frame_sets::{Set, SetRead, kinds};
 
 // `refused` is the number of the fact of 2 to 5 that holds, 0 if none does. `at` is the next set's place, `stop` the ICV's,
 // and `seen` tells which sets of types 1 to 4 have stood.
-#[derive(Drop)]
+#[derive(Clone, Copy)]
 pub struct Position {
     pub refused: u8,
     pub at: usize,
@@ -17,7 +17,7 @@ pub struct Position {
 }
 
 // A set, or none: at the end, at the place of the bad set, or by the fact of 2 to 5 that holds.
-#[derive(Drop)]
+#[derive(Clone, Copy)]
 pub enum Next {
     Set(Set),
     End,
@@ -25,7 +25,7 @@ pub enum Next {
     Refused(u8),
 }
 
-#[derive(Drop)]
+#[derive(Clone, Copy)]
 pub struct Stepped {
     pub next: Next,
     pub after: Position,

@@ -1,4 +1,6 @@
 // The rules of the table of sets, on a set's numbers: its type, its body's length, the room that there is, its key number.
+#![tactic(auto)]
+
 ghost use Rattle.std.specs.Prelude.{◌≡◌};
 ghost use Rattle.base_facts.specs.Facts.{check_of};
 ghost use Rattle.frame_rules.specs.Rules.{list_len, bad_body, bad_shape, extent_of};

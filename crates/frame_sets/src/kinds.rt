@@ -6,7 +6,7 @@ use base_mi::Mi;
 use base_packed::used::KeyFlags;
 
 // What a SAK Use set says of one key.
-#[derive(Drop)]
+#[derive(Clone, Copy)]
 pub struct KeyUse {
     pub an: u8,
     pub transmit: bool,
@@ -16,14 +16,14 @@ pub struct KeyUse {
     pub pn: u32,
 }
 
-#[derive(Drop)]
+#[derive(Clone, Copy)]
 pub struct SakUse {
     pub latest: KeyUse,
     pub old: KeyUse,
 }
 
 // A Distributed SAK's header; the wrapped key's octets are `len` from `place`.
-#[derive(Drop)]
+#[derive(Clone, Copy)]
 pub struct SakHeader {
     pub an: u8,
     pub confidentiality: u8,
@@ -33,7 +33,7 @@ pub struct SakHeader {
     pub len: usize,
 }
 
-#[derive(Drop)]
+#[derive(Clone, Copy)]
 pub enum Kind {
     Live,
     Potential,

@@ -1,4 +1,6 @@
 // One further parameter set of a frame, read at a place: good, with what it says, or bad by the rules that it breaks.
+#![tactic(auto)]
+
 ghost use Rattle.std.specs.Prelude.{◌≡◌, ◌<◌, ◌^◌};
 ghost use Rattle.frame_sets.specs.Set.{len_at, head_of, set_of};
 
@@ -9,14 +11,14 @@ use frame_places::Places;
 pub mod kinds;
 
 // `place` is its header's in the frame, `len` its body's length.
-#[derive(Drop)]
+#[derive(Clone, Copy)]
 pub struct Set {
     pub place: usize,
     pub len: u16,
     pub kind: Kind,
 }
 
-#[derive(Drop)]
+#[derive(Clone, Copy)]
 pub enum SetRead {
     Good(Set),
     Bad,

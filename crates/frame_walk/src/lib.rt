@@ -1,4 +1,6 @@
 // The walk over the further sets of a frame, and the search of a peer list.
+#![tactic(auto)]
+
 ghost use Rattle.std.specs.Prelude.{◌≡◌};
 ghost use Rattle.frame_walk.specs.Walk.{walk_of};
 
@@ -8,7 +10,7 @@ use frame_sets::{SetRead, kinds};
 pub mod list;
 
 // `End` tells where each set of types 1 to 4 stands, `Bad` the place of the first set that is wrong.
-#[derive(Drop)]
+#[derive(Clone, Copy)]
 pub enum Walked {
     End(Places),
     Bad(usize),

@@ -5,7 +5,7 @@ ghost use Rattle.frame_walk.specs.List.{found_in};
 use base_mi::{Mi, entry};
 
 // The entry's index in the list, and its message number.
-#[derive(Drop)]
+#[derive(Clone, Copy)]
 pub enum Found {
     At(usize, u32),
     Nothing,

@@ -1,4 +1,6 @@
 // A whole frame, written from a value that says which sets it has.
+#![tactic(auto)]
+
 ghost use Rattle.std.specs.Prelude.{◌≡◌, cond, ◌++◌, ◌+◌, ◌*◌, ◌≤◌, min, length, replicate};
 ghost use Rattle.std.proofs.lemmas.List.Edits.{sets};
 ghost use Rattle.base_octets.specs.Run.{written};
@@ -14,7 +16,7 @@ mod keys;
 mod lists;
 
 // What the Basic set says of its sender; the CKN is the first `size` octets, at most 32.
-#[derive(Drop)]
+#[derive(Clone, Copy)]
 pub struct Sender {
     pub priority: u8,
     pub server: bool,
@@ -28,7 +30,7 @@ pub struct Sender {
 }
 
 // A Distributed SAK in the body of 28.
-#[derive(Drop)]
+#[derive(Clone, Copy)]
 pub struct Sak {
     pub an: u8,
     pub confidentiality: u8,
@@ -37,7 +39,7 @@ pub struct Sak {
 }
 
 // `used` and `distributed` say whether the frame has a SAK Use and a Distributed SAK set; a list stands in it if it isn't empty.
-#[derive(Drop)]
+#[derive(Clone, Copy)]
 pub struct Mkpdu {
     pub sender: Sender,
     pub live: Entries,
@@ -48,7 +50,7 @@ pub struct Mkpdu {
     pub sak: Sak,
 }
 
-#[derive(Drop)]
+#[derive(Clone, Copy)]
 pub enum Wrote {
     Octets(usize),
     Refused(u8),

@@ -1,4 +1,6 @@
 // The saved port image of a participant, written.
+#![tactic(auto)]
+
 ghost use Rattle.std.specs.Prelude.{◌≡◌, ◌+◌, ◌*◌, ◌≤◌, min, length};
 ghost use Rattle.std.proofs.lemmas.List.Edits.{sets};
 ghost use Rattle.base_packed.specs.Bit.{bit as bit_of};

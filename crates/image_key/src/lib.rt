@@ -1,4 +1,6 @@
 // A key's record of a port image, 28 octets.
+#![tactic(auto)]
+
 ghost use Rattle.std.specs.Prelude.{◌≡◌, ◌+◌, ◌*◌, ◌<◌, ◌^◌};
 ghost use Rattle.std.proofs.lemmas.List.Edits.{sets};
 ghost use Rattle.image_key.specs.Key.{key_flags, key_octets, slot_octets, key_at, key_clean, slot_at, slot_clean};

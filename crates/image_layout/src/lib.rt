@@ -1,5 +1,7 @@
 // Where the kinds of a port image stand, whatever their number: the contents table, written an entry at a time, and judged with
 // the bodies that it tells of.
+#![tactic(auto)]
+
 ghost use Rattle.std.specs.Prelude.{◌≡◌, ◌+◌, ◌*◌};
 ghost use Rattle.std.proofs.lemmas.List.Edits.{sets};
 ghost use Rattle.image_layout.specs.Layout.{place, contents_head, contents_entry, records_at, offset_at, laid_out};

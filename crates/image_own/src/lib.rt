@@ -1,4 +1,6 @@
 // The own record of a port image, 116 octets, written and read at a place.
+#![tactic(auto)]
+
 ghost use Rattle.std.specs.Prelude.{◌≡◌, ◌+◌, ◌<◌, ◌^◌};
 ghost use Rattle.std.proofs.lemmas.List.Edits.{sets};
 ghost use Rattle.base_octets.specs.Run.{part_of};

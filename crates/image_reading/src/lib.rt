@@ -1,4 +1,6 @@
 // A port image read back: refusal 16.
+#![tactic(auto)]
+
 ghost use Rattle.std.specs.Prelude.{◌≡◌, ◌&&◌};
 ghost use Rattle.participant.specs.Record.{set_table};
 ghost use Rattle.image_layout.specs.Layout.{laid_out};

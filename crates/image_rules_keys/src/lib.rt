@@ -1,4 +1,6 @@
 // The rules of the keys' records.
+#![tactic(auto)]
+
 ghost use Rattle.std.specs.Prelude.{◌≡◌};
 ghost use Rattle.image_rules.specs.Rules.{use_good};
 ghost use Rattle.image_rules.specs.Records.{number_good, key_good, slot_good, keys_good};

@@ -1,4 +1,6 @@
 // The rules of our own record.
+#![tactic(auto)]
+
 ghost use Rattle.std.specs.Prelude.{◌≡◌, drop};
 ghost use Rattle.image_rules.specs.Rules.{zeros, unsent_zero, undistributed_zero, unused_zero};
 ghost use Rattle.image_rules.specs.Records.{own_good};

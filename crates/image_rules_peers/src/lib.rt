@@ -1,4 +1,6 @@
 // The rules of the peers' records, each held against those behind it.
+#![tactic(auto)]
+
 ghost use Rattle.std.specs.Prelude.{◌≡◌};
 ghost use Rattle.table.specs.Table.{entries};
 ghost use Rattle.table_expiry.specs.Kept.{fresh_proof};

@@ -1,1 +1,2 @@
 // What holds of every call: theorems about the definitions, no code.
+#![tactic(auto)]

@@ -1,1 +1,2 @@
 // The bench cases: one table under one theorem about the definitions, no code.
+#![tactic(auto)]

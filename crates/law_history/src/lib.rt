@@ -1,1 +1,2 @@
 // What holds after any history of calls: theorems about the definitions, no code.
+#![tactic(auto)]

@@ -1,1 +1,2 @@
 // The round trip of the frame codec: theorems about the definitions, no code.
+#![tactic(auto)]

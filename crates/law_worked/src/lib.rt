@@ -1,1 +1,2 @@
 // Theorems: worked histories, computed.
+#![tactic(auto)]

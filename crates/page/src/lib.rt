@@ -1,4 +1,6 @@
 // What the port page says of a participant as it stands, without the line's end. Beside it the line itself.
+#![tactic(auto)]
+
 ghost use Rattle.std.specs.Prelude.{◌≡◌, ◌+◌, ◌<◌, ◌^◌, length};
 ghost use Rattle.std.proofs.lemmas.List.Edits.{sets};
 ghost use Rattle.page.specs.Text.{line_of};

@@ -10,7 +10,7 @@ use base_mi::Mi;
 pub const ROOM: usize = 96;
 
 // The first `len` octets are the text, those past it are zeros.
-#[derive(Drop)]
+#[derive(Clone, Copy)]
 pub struct Line {
     pub text: [u8; ROOM],
     pub len: usize,

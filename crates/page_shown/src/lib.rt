@@ -1,4 +1,6 @@
 // The line of the port page for the octets of an image: what `portshow` prints.
+#![tactic(auto)]
+
 ghost use Rattle.std.specs.Prelude.{◌≡◌};
 ghost use Rattle.page_shown.specs.Show.{shown_of};
 

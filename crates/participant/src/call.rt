@@ -4,13 +4,13 @@ ghost use Rattle.participant.specs.Call.{done_of, refused_of, aged_to};
 
 use crate::Participant;
 
-#[derive(Drop)]
+#[derive(Clone, Copy)]
 pub enum Answer {
     Done,
     Refused(u8),
 }
 
-#[derive(Drop)]
+#[derive(Clone, Copy)]
 pub struct Called {
     pub participant: Participant,
     pub answer: Answer,

@@ -1,4 +1,6 @@
 // One participant by value: its record, plain numbers, flags, arrays and structs. Beside it its keys, and what a call answers.
+#![tactic(auto)]
+
 use base_mi::Mi;
 use table::Table;
 
@@ -7,7 +9,7 @@ pub mod keys;
 
 // A key on record; `receive` and `transmit` are what the host reported of it.
 #[repr(C)]
-#[derive(Drop)]
+#[derive(Clone, Copy)]
 pub struct Key {
     pub mi: Mi,
     pub kn: u32,
@@ -20,7 +22,7 @@ pub struct Key {
 
 // A place for a key, all zeros where it holds none.
 #[repr(C)]
-#[derive(Drop)]
+#[derive(Clone, Copy)]
 pub struct Slot {
     pub held: bool,
     pub key: Key,
@@ -28,7 +30,7 @@ pub struct Slot {
 
 // `sent` and `distributed` are the times of the last send and the last distribution; the CKN is the first `size` octets.
 #[repr(C)]
-#[derive(Drop)]
+#[derive(Clone, Copy)]
 pub struct Participant {
     pub table: Table,
     pub clock: u64,

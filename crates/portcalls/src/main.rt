@@ -1,4 +1,6 @@
 // Plays a call script, in the file that its argument names or on standard input, and prints one line a record.
+#![tactic(auto)]
+
 use crate::shape::Place;
 use crate::state::{Played, State};
 use libc::{STDERR_FILENO, STDOUT_FILENO};

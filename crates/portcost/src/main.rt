@@ -1,4 +1,6 @@
 // What a call costs: makes a participant by the first calls of a script, plays its last call n times, and prints a check line.
+#![tactic(auto)]
+
 use libc::{STDIN_FILENO, STDOUT_FILENO};
 
 mod play;

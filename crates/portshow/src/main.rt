@@ -1,4 +1,6 @@
 // Prints the line of a port image: of the file that its argument names, or of standard input.
+#![tactic(auto)]
+
 ghost use Rattle.io.specs.Counts.{IsPrefixLen};
 
 use libc::{STDERR_FILENO, STDIN_FILENO, STDOUT_FILENO};

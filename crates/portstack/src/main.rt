@@ -1,5 +1,7 @@
 // Each call of the library as a function of its own, for bench/stack: into a function that calls itself the compiler takes nothing inline
 // that keeps more than 1,024 octets (docs/COST.md). Plays them all on what it reads, and prints a check line.
+#![tactic(auto)]
+
 use call_accept::Received;
 use call_send::Sent;
 use frame_writer::Wrote;

@@ -1,4 +1,6 @@
 // The peer table: at most 16 entries by value, in order of entry.
+#![tactic(auto)]
+
 ghost use Rattle.std.specs.Prelude.{◌≡◌};
 ghost use Rattle.table.specs.Table.{blank_peer, empty_table};
 
@@ -8,7 +10,7 @@ pub const ROOM: usize = 16;
 
 // `proof` is the time of the last proof, 0 where the entry is not proven.
 #[repr(C)]
-#[derive(Drop)]
+#[derive(Clone, Copy)]
 pub struct Peer {
     pub mi: Mi,
     pub mn: u32,
@@ -24,7 +26,7 @@ pub struct Peer {
 
 // The first `count` peers; a count above 16 is taken as 16.
 #[repr(C)]
-#[derive(Drop)]
+#[derive(Clone, Copy)]
 pub struct Table {
     pub peers: [Peer; ROOM],
     pub count: usize,

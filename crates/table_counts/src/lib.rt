@@ -1,4 +1,6 @@
 // How many peers are Live and how many Potential, and their lists for the writer, in table order.
+#![tactic(auto)]
+
 ghost use Rattle.std.specs.Prelude.{◌≡◌, map, length};
 ghost use Rattle.law_lists.specs.Lists.{those};
 ghost use Rattle.table.specs.Table.{entries};

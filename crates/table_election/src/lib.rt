@@ -1,4 +1,6 @@
 // Who is Key Server.
+#![tactic(auto)]
+
 ghost use Rattle.std.specs.Prelude.{◌≡◌};
 ghost use Rattle.table_election.specs.Elect.{lower_mi, lower, rank_of, may_lead, eligible, elected};
 ghost use Rattle.table_election.specs.Lead.{challenged, lead_step, server_led, first_lead};
@@ -9,7 +11,7 @@ use table::{Peer, ROOM, Table};
 
 // What candidates are compared by.
 #[repr(C)]
-#[derive(Drop)]
+#[derive(Clone, Copy)]
 pub struct Rank {
     pub priority: u8,
     pub sci: u64,
@@ -17,14 +19,14 @@ pub struct Rank {
 }
 
 // The best candidate so far: whether it is ourselves, and its rank.
-#[derive(Drop)]
+#[derive(Clone, Copy)]
 enum Lead {
     Neither,
     By(bool, Rank),
 }
 
 // Who is Key Server; a peer by its identifier.
-#[derive(Drop)]
+#[derive(Clone, Copy)]
 pub enum Server {
     Nobody,
     Ourselves,
@@ -141,7 +143,7 @@ fn start(own: Rank) -> Lead
 }
 
 // How the election stands: how many peers are Live, whether we are elected, and whether a peer is.
-#[derive(Drop)]
+#[derive(Clone, Copy)]
 pub struct Election {
     pub live: usize,
     pub ours: bool,

@@ -1,4 +1,6 @@
 // What an accepted frame makes of its sender's entry, and where it goes: to the end of the table, or to its place.
+#![tactic(auto)]
+
 ghost use Rattle.std.specs.Prelude.{◌≡◌};
 ghost use Rattle.table_enter.specs.Enter.{held_peer, proof_after, updated, place_for, grown_by};
 
@@ -8,7 +10,7 @@ use table_lookup::Held;
 
 // What a frame says of its sender.
 #[repr(C)]
-#[derive(Drop)]
+#[derive(Clone, Copy)]
 pub struct Heard {
     pub mi: Mi,
     pub mn: u32,

@@ -1,5 +1,7 @@
 // Expiry of the peer table at a time: old entries go, old proofs are lost, the order stays and the gap closes. Every function is
 // total, also on a table that no call would make.
+#![tactic(auto)]
+
 ghost use Rattle.std.specs.Prelude.{◌≡◌};
 ghost use Rattle.table_expiry.specs.Expiry.{fresh_at, lapsed, aged_peer, expired, oldest_at, still_from};
 

@@ -1,4 +1,6 @@
 // Looking an identifier up in the table, once: what a call asks of it is asked of the answer.
+#![tactic(auto)]
+
 ghost use Rattle.std.specs.Prelude.{◌≡◌};
 ghost use Rattle.table_lookup.specs.Look.{held_in, first_at, found_at, stale_for, no_room_for, live_for, potential_for, becomes_live};
 
@@ -6,7 +8,7 @@ use base_mi::Mi;
 use table::{Peer, ROOM, Table};
 
 // The entry of an identifier and its place, if there is one.
-#[derive(Drop)]
+#[derive(Clone, Copy)]
 pub enum Held {
     At(usize, Peer),
     Missing,

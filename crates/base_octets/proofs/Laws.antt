@@ -117,6 +117,7 @@ put-turn l at i v =
 
 -- the same in the terms of their loops, which count down
 pub put-again : (l l' : List ℕ) (at i v : ℕ) → 0 < i → l' ≡ set l (at + (i - 1)) (v % 256) → sets l' at (be_of (i - 1) (v / 256)) ≡ sets l at (be_of i v)
+put-again l l' at zero v h e = elim h [ ]
 put-again l l' at (suc i) v h e =
     let m : suc i - 1 ≡ i = omega arith in
     rw (e, m) (sym (put-turn l at i v))

@@ -1,0 +1,12 @@
+use mathlib.Core.Path.{sym}
+use Rattle.base_octets.specs.Number.{be_of}
+use Rattle.base_octets.proofs.Laws.{sets-out}
+use Rattle.base_octets.proofs.Putting.{Putting, putting-next, putting-end}
+use borrow.Author.Rules.{rules}
+use Rattle.base_octets.proofs.put_across.Given as goal
+
+abbrev pub invariant-loop-i : goal.invariant-loop-i
+invariant-loop-i l = Putting l.initial.out l.at l.n l.v l.out l.rest l.i
+
+abbrev pub decreases-loop-i : goal.decreases-loop-i
+decreases-loop-i l = l.i

@@ -4,20 +4,20 @@ use Rattle.frame_places.proofs.has.Goals as goal
 
 pub returns-in-1 : goal.returns-in-1
 unfolding holds
-returns-in-1 c = rw c.in-1.keys1
+returns-in-1 c = rw c.in-1.is
 
 pub returns-in-2 : goal.returns-in-2
 unfolding holds
-returns-in-2 c = rw c.in-2.keys2
+returns-in-2 c = rw c.in-2.is
 
 pub returns-in-3 : goal.returns-in-3
 unfolding holds
-returns-in-3 c = rw c.in-3.keys3
+returns-in-3 c = rw c.in-3.is
 
 pub returns-in-4 : goal.returns-in-4
 unfolding holds
-returns-in-4 c = rw c.in-4.keys4
+returns-in-4 c = rw c.in-4.is
 
 pub returns-in_default : goal.returns-in_default
 unfolding holds
-returns-in_default c = let r = c.in_default.rest in simp (ne_eqb _ _ r.0.0.0.1, ne_eqb _ _ r.0.0.1, ne_eqb _ _ r.0.1, ne_eqb _ _ r.1)
+returns-in_default c = let r = c.in_default.in_default-own.rest in simp (ne_eqb _ _ r.0.0.0.1, ne_eqb _ _ r.0.0.1, ne_eqb _ _ r.0.1, ne_eqb _ _ r.1)

@@ -1,5 +1,6 @@
 use Prim.Native.Nat.{◌-◌, ◌≤◌, ◌<◌, min}
 use mathlib.Core.Path.{◌≡◌, ap, sym, ◌∙◌}
+use mathlib.Core.Bool.{not}
 use mathlib.Core.Logic.{⊎_elim}
 use native.Mathlib.Omega.{arith}
 use lib.ListN.{length, length-map, take, drop}
@@ -14,7 +15,7 @@ use Rattle.table_expiry.proofs.expire.Goals.{else-fresh, then-fresh}
 
 -- src/lib.rt:85:9
 pub returns-then-not-expires : goal.returns-then-not-expires
-returns-then-not-expires c = rw c.at_most-n.ensures (sym (expired-steady c.args.time c.args.t ((let sized : length c.args.t.peers ≡ 16 = search rules in sized)) (rw c.at_most-n.ensures at (sym c.loop-i.invariant.1 ∙ steady-end _ c.args.t.peers c.args.t.count ((let sized : length c.args.t.peers ≡ 16 = search rules in sized)) c.at_most-n.ensures c.args.time c.loop-i.expires c.loop-i.i c.loop-i-test.false ∙ c.if-not-expires.true))))
+returns-then-not-expires c = rw c.at_most-n.ensures (sym (expired-steady c.args.time c.args.t ((let sized : length c.args.t.peers ≡ 16 = search rules in sized)) (rw c.at_most-n.ensures at (sym c.loop-i.invariant.1 ∙ steady-end _ c.args.t.peers c.args.t.count ((let sized : length c.args.t.peers ≡ 16 = search rules in sized)) c.at_most-n.ensures c.args.time c.loop-i.expires c.loop-i.i c.loop-i-test.false ∙ ap not c.if-not-expires.true))))
 
 -- src/lib.rt:89:5
 pub loop-i-2-preserved : goal.loop-i-2-preserved

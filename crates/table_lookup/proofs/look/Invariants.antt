@@ -1,0 +1,14 @@
+use Prim.Native.Nat.{◌-◌, ◌≤◌}
+use mathlib.Core.Path.{◌≡◌, sym, ◌∙◌}
+use lib.ListN.{length, length-map, take, drop}
+use borrow.Author.Rules.{rules}
+use Rattle.table.specs.Table.{blank_peer}
+use Rattle.table_lookup.specs.Look.{seek, held_in}
+use Rattle.law_lists.specs.Laws.{loop-next, drop-end}
+use Rattle.table_lookup.proofs.look.Given as goal
+
+abbrev pub invariant-loop-i : goal.invariant-loop-i
+invariant-loop-i l = (l.i ≤ l.n) × (seek l.m l.i (drop l.i (take l.n l.t.peers)) ≡ seek l.m 0 (take l.n l.t.peers))
+
+abbrev pub decreases-loop-i : goal.decreases-loop-i
+decreases-loop-i l = l.n - l.i

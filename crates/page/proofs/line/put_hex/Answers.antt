@@ -11,6 +11,6 @@ returns c =
     let x = c.args.x in
     let width = c.args.width in
     let d = c.hex-k.ensures in
-    let k = hex-digits x width _ c.requires.0 c.requires.1.0 d.1.0 in
-    let e = d.1.1 ∙ ap (λ (j : ℕ). last_digits 16 j x) k in
+    let k = hex-digits x width _ c.requires.width_nonzero c.requires.x_bound d.len in
+    let e = d.digits ∙ ap (λ (j : ℕ). last_digits 16 j x) k in
     (c.put_words.ensures.0 ∙ rw (e, length_digits 16 width x), c.put_words.ensures.1 ∙ rw e)

@@ -44,12 +44,16 @@ fn complain<D: Display + Drop>(rt: &impl Eprint, what: D) {
     let _ = eprintln!(rt; "portcalls: {what}");
 }
 
+fn help<P: Print>(rt: &P) -> Result<(), Fault<'static>> {
+    input::if_written(rt.print(HELP))
+}
+
 // Prints a line, and answers whether it was one.
 fn say<P: Print>(rt: &P, out: &[u8], n: usize) -> Result<bool, Fault<'static>> {
     if out.len() < n {
         return Ok(false);
     }
-    rt.write_all(&out[..n]).map_err(Fault::Unwritten)?;
+    input::if_written(rt.write_all(&out[..n]))?;
     Ok(true)
 }
 
@@ -101,7 +105,7 @@ fn step<R: Read, P: Eprint>(
 
 // The input is over where a record would begin.
 fn over<P: Eprint>(rt: &P, h: Head, record: u64) -> Result<(), Fault<'static>> {
-    h.read.map_err(Fault::Unread)?;
+    input::if_read(h.read)?;
     if record == 1 {
         complain(rt, "there are no octets to read");
     }
@@ -109,7 +113,7 @@ fn over<P: Eprint>(rt: &P, h: Head, record: u64) -> Result<(), Fault<'static>> {
 }
 
 // A proved loop has to end, and nothing says that the input does: no script has so many records.
-fn play<R: Read, P: Print + Eprint>(
+fn run<R: Read, P: Print + Eprint>(
     rt: &P,
     from: &mut R,
     space: &mut [u8],
@@ -133,26 +137,26 @@ fn play<R: Read, P: Print + Eprint>(
     Ok(())
 }
 
-fn read_and_play<R: Read, P: Print + Eprint>(rt: &P, from: &mut R) -> Result<(), Fault<'static>> {
+fn run_with_room<R: Read, P: Print + Eprint>(rt: &P, from: &mut R) -> Result<(), Fault<'static>> {
     let mut space = [0u8; ROOM];
     let mut out = [0u8; ROOM];
-    play(rt, from, &mut space, &mut out)
+    run(rt, from, &mut space, &mut out)
 }
 
-fn run<'a, R: Env + Files + Input + Print + Eprint>(
+fn start<'a, R: Env + Files + Input + Print + Eprint>(
     rt: &R,
     name: &'a mut [u8],
 ) -> Result<(), Fault<'a>> {
     match input::wanted(rt, name)? {
-        Asked::Help => rt.print(HELP).map_err(Fault::Unwritten),
-        Asked::Input => read_and_play(rt, &mut rt.reader()),
-        Asked::File(file) => read_and_play(rt, &mut input::open(rt, file)?),
+        Asked::Help => help(rt),
+        Asked::Input => run_with_room(rt, &mut rt.reader()),
+        Asked::File(file) => run_with_room(rt, &mut input::open(rt, file)?),
     }
 }
 
 fn main(rt: HostRuntime) {
     let mut name = [0u8; input::NAME];
-    if let Err(fault) = run(&rt, &mut name) {
+    if let Err(fault) = start(&rt, &mut name) {
         complain(&rt, fault);
     }
 }

@@ -10,8 +10,12 @@ use std::io::Read;
 // As much of the input is read; where it is shorter, zeros follow.
 const ROOM: usize = 4096;
 
+fn say<P: Print>(rt: &P, sum: u64) -> io::Result<()> {
+    println!(rt; "check {sum}")
+}
+
 // Records as in a call script; op 12 is the last, the number of plays in 4 octets with the op and the payload to play behind it.
-fn cost<P: Print>(rt: &P, script: &[u8]) -> io::Result<()> {
+fn cost(script: &[u8]) -> Option<u64> {
     let mut p = setup::blank();
     let mut at: usize = 0;
     while at < script.len() {
@@ -19,18 +23,20 @@ fn cost<P: Print>(rt: &P, script: &[u8]) -> io::Result<()> {
         let n = base_octets::u16_at(script, at + 1) as usize;
         let d = base_runs::part(script, at + 3, n);
         if op == 12 {
-            let sum = play::often(p, d);
-            return println!(rt; "check {sum}");
+            return Some(play::often(p, d));
         }
         p = setup::called(p, op, d);
         at += 3 + n;
     }
-    Ok(())
+    None
 }
 
 fn main(rt: HostRuntime) -> io::Result<()> {
     let mut script = Vec::new(rt.alloc());
     rt.reader().take(ROOM as u64).read_to_end(&mut script)?;
     script.resize(ROOM, 0)?;
-    cost(&rt, &script)
+    match cost(&script) {
+        Some(sum) => say(&rt, sum),
+        None => Ok(()),
+    }
 }

@@ -1,5 +1,5 @@
 // Where a program's octets come from, and why none come. The same file in portshow and portcalls.
-ghost use Rattle.std.specs.Prelude.{◌≡◌, ◌<◌, ◌≤◌, length, take, OnOk};
+ghost use Rattle.std.specs.Prelude.{◌≡◌, ◌<◌, ◌≤◌, ◌↔◌, length, take, OnOk, IsOk};
 ghost use Rattle.std.specs.Io.KnownBytes.{Consumes, IsAtEnd};
 
 use std::env::FillError;
@@ -109,6 +109,26 @@ pub(crate) fn open<'a, R: Files>(rt: &R, name: &'a str) -> Result<R::File, Fault
     match fs::open(rt, name) {
         Ok(file) => Ok(file),
         Err(e) => Err(Fault::Unopened(name, e)),
+    }
+}
+
+// What reading came to.
+pub(crate) fn if_read(read: io::Result<()>) -> Result<(), Fault<'static>>
+    ensures { IsOk result ↔ IsOk read }
+{
+    match read {
+        Ok(()) => Ok(()),
+        Err(e) => Err(Fault::Unread(e)),
+    }
+}
+
+// What writing came to.
+pub(crate) fn if_written(written: io::Result<()>) -> Result<(), Fault<'static>>
+    ensures { IsOk result ↔ IsOk written }
+{
+    match written {
+        Ok(()) => Ok(()),
+        Err(e) => Err(Fault::Unwritten(e)),
     }
 }
 

@@ -28,6 +28,10 @@ fn complain<D: Display + Drop>(rt: &impl Eprint, what: D) {
     let _ = eprintln!(rt; "portshow: {what}");
 }
 
+fn help<P: Print>(rt: &P) -> Result<(), Fault<'static>> {
+    input::if_written(rt.print(HELP))
+}
+
 fn say<W: Write>(out: &mut W, l: Line) -> io::Result<()>
     ensures { OnOk result (l.len ≤ length l.text → Appends (W.contents out.old) (W.contents out.new) (take l.len l.text)) }
 {
@@ -43,19 +47,20 @@ fn say<W: Write>(out: &mut W, l: Line) -> io::Result<()>
 fn show<R: Read, P: Print + Eprint>(rt: &P, from: &mut R) -> Result<(), Fault<'static>> {
     let mut space = [0u8; 1025];
     let (n, read) = input::fill(from, &mut space);
-    read.map_err(Fault::Unread)?;
+    input::if_read(read)?;
     if n == 0 {
         complain(rt, "there are no octets to read");
     }
-    say(&mut io::writer(rt), page_shown::show(&space[..n])).map_err(Fault::Unwritten)
+    let l = page_shown::show(&space[..n]);
+    input::if_written(say(&mut io::writer(rt), l))
 }
 
-fn run<'a, R: Env + Files + Input + Print + Eprint>(
+fn start<'a, R: Env + Files + Input + Print + Eprint>(
     rt: &R,
     name: &'a mut [u8],
 ) -> Result<(), Fault<'a>> {
     match input::wanted(rt, name)? {
-        Asked::Help => rt.print(HELP).map_err(Fault::Unwritten),
+        Asked::Help => help(rt),
         Asked::Input => show(rt, &mut rt.reader()),
         Asked::File(file) => show(rt, &mut input::open(rt, file)?),
     }
@@ -63,7 +68,7 @@ fn run<'a, R: Env + Files + Input + Print + Eprint>(
 
 fn main(rt: HostRuntime) {
     let mut name = [0u8; input::NAME];
-    if let Err(fault) = run(&rt, &mut name) {
+    if let Err(fault) = start(&rt, &mut name) {
         complain(&rt, fault);
     }
 }

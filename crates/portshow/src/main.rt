@@ -1,8 +1,9 @@
 // Prints the line of a port image: of the file that its argument names, or of standard input.
 #![tactic(auto)]
 
-ghost use Rattle.std.specs.Prelude.{◌≤◌, length, take, OnOk};
-ghost use Rattle.std.specs.Io.KnownBytes.{Appends};
+ghost use Rattle.std.specs.Prelude.{◌<◌, length, OnOk, IfSome};
+ghost use Rattle.page_shown.specs.Show.{shown_of};
+ghost use Rattle.portshow.specs.Written.{WritesLine};
 
 mod input;
 
@@ -33,7 +34,7 @@ fn help<P: Print>(rt: &P) -> Result<(), Fault<'static>> {
 }
 
 fn say<W: Write>(out: &mut W, l: Line) -> io::Result<()>
-    ensures { OnOk result (l.len ≤ length l.text → Appends (W.contents out.old) (W.contents out.new) (take l.len l.text)) }
+    ensures { OnOk result (WritesLine (W.contents out.old) (W.contents out.new) l) }
 {
     let text = l.text;
     let n = l.len;
@@ -44,7 +45,14 @@ fn say<W: Write>(out: &mut W, l: Line) -> io::Result<()>
 }
 
 // No good image fills the space, so none is cut.
-fn show<R: Read, P: Print + Eprint>(rt: &P, from: &mut R) -> Result<(), Fault<'static>> {
+fn show<R: Read, W: Write, E: Eprint>(
+    rt: &E,
+    from: &mut R,
+    out: &mut W,
+) -> Result<(), Fault<'static>>
+    ensures { OnOk result (IfSome (R.remaining from.old)
+        (λ image. length image < 1025 → WritesLine (W.contents out.old) (W.contents out.new) (shown_of image))) }
+{
     let mut space = [0u8; 1025];
     let (n, read) = input::fill(from, &mut space);
     input::if_read(read)?;
@@ -52,7 +60,7 @@ fn show<R: Read, P: Print + Eprint>(rt: &P, from: &mut R) -> Result<(), Fault<'s
         complain(rt, "there are no octets to read");
     }
     let l = page_shown::show(&space[..n]);
-    input::if_written(say(&mut io::writer(rt), l))
+    input::if_written(say(out, l))
 }
 
 fn start<'a, R: Env + Files + Input + Print + Eprint>(
@@ -61,8 +69,8 @@ fn start<'a, R: Env + Files + Input + Print + Eprint>(
 ) -> Result<(), Fault<'a>> {
     match input::wanted(rt, name)? {
         Asked::Help => help(rt),
-        Asked::Input => show(rt, &mut rt.reader()),
-        Asked::File(file) => show(rt, &mut input::open(rt, file)?),
+        Asked::Input => show(rt, &mut rt.reader(), &mut io::writer(rt)),
+        Asked::File(file) => show(rt, &mut input::open(rt, file)?, &mut io::writer(rt)),
     }
 }
 

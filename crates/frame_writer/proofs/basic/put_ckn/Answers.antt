@@ -11,4 +11,4 @@ pub returns : goal.returns
 unfolding ckn_octets
 returns c =
     let s = c.args.ckn.now in
-    sets-two _ _ _ 36 (length s) s (replicate (padded_of (length s) - length s) 0) refl c.XXput_all_lem.ensures c.put_zeros.ensures
+    sets-two _ _ _ 36 (length s) s (replicate (padded_of (length s) - length s) 0) refl c.put_all.ensures c.put_zeros.ensures

@@ -1,3 +1,4 @@
+use mathlib.Core.Bool.{not}
 use Prim.Native.Nat.{ℕ}
 use mathlib.Core.Path.{sym, ◌≡◌, ap, ◌∙◌, refl}
 use native.Mathlib.Omega.{arith}
@@ -18,12 +19,12 @@ returns c =
     let a = c.args in
     let l = a.out.now in
     let k = a.k in
-    let n = some-part a.distributed (sak_set k) c.if-not-distributed.false in
+    let n = some-part a.distributed (sak_set k) (ap not c.if-not-distributed.false) in
     let f = sak_octet (record { an = k.an; confidentiality = k.confidentiality }) in
     let w : length k.wrapped ≡ 24 = search rules in
-    let s : c.XXput_all_lem.new.0 ≡ sets l a.at (sak_set k) =
+    let s : c.put_all.new.out ≡ sets l a.at (sak_set k) =
     sets-three l _ _ _ a.at 4 4 (set_header 4 f 28) (be_of 4 k.kn) k.wrapped refl (length-be_of 4 k.kn)
     (c.put_set_header.ensures ∙ ap (λ (x : ℕ). sets l a.at (set_header 4 x 28)) c.pack-flags.ensures)
     c.put_u32.ensures
-    c.XXput_all_lem.ensures in
+    c.put_all.ensures in
     (omega (arith, ap length n, length-sak k w), s ∙ ap (sets l a.at) (sym n))

@@ -1,3 +1,4 @@
+use mathlib.Core.Bool.{not}
 use Prim.Native.Nat.{ℕ}
 use mathlib.Core.Path.{ap₂, sym, ◌≡◌, ap, ◌∙◌, refl}
 use native.Mathlib.Omega.{arith}
@@ -17,7 +18,7 @@ returns c =
     let a = c.args in
     let l = a.out.now in
     let u = a.u in
-    let n = some-part a.used (use_set u) c.if-not-used.false in
+    let n = some-part a.used (use_set u) (ap not c.if-not-used.false) in
     let f = used_octet (record { latest = use_flags u.latest; old = use_flags u.old }) in
     let e : c.pack-flags.result ≡ f =
     c.pack-flags.ensures

@@ -21,10 +21,10 @@ unfolding list_octets
 loop-i-preserved c =
     let l = c.loop-i in
     let a = c.args in
-    let e : length a.t3 ≡ 16 = search rules in (
+    let e : length a.entries ≡ 16 = search rules in (
       omega arith,
       search rules,
-      runs-step entry_octets 16 length-entry l.out c.put_entry.new.out a.at l.i a.n a.t3 zero-entry c.loop-i-test.true (omega arith) c.put_entry.ensures ∙ l.invariant.2,
+      runs-step entry_octets 16 length-entry l.out c.put_entry.new.out a.at l.i a.n a.entries zero-entry c.loop-i-test.true (omega arith) c.put_entry.ensures ∙ l.invariant.2,
     )
 
 pub returns : goal.returns
@@ -32,6 +32,6 @@ unfolding list_octets
 returns c =
     let a = c.args in
     let l = c.loop-i in
-    let e : length a.t3 ≡ 16 = search rules in
-    let z : length (take a.n a.t3) ≤ l.i = simp length-take (omega arith) in
-    ap (λ (k : List Entry). sets l.out (a.at + l.i * 16) (list_octets k)) (sym (drop_of_length-le (take a.n a.t3) z)) ∙ l.invariant.2
+    let e : length a.entries ≡ 16 = search rules in
+    let z : length (take a.n a.entries) ≤ l.i = simp length-take (omega arith) in
+    ap (λ (k : List Entry). sets l.out (a.at + l.i * 16) (list_octets k)) (sym (drop_of_length-le (take a.n a.entries) z)) ∙ l.invariant.2

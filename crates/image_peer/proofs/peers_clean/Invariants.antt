@@ -1,0 +1,14 @@
+use Rattle.image_peer.proofs.Laws.{peers_clean-next, peers_clean-bad, peers_clean-end}
+use Rattle.image_peer.specs.Peer.{peers_clean}
+use borrow.Author.Tests.{not-true, not-false}
+use Prim.Native.Nat.{◌+◌, ◌-◌, ◌*◌, ◌≤◌}
+use mathlib.Core.Path.{◌≡◌, sym, ◌∙◌, ap₂}
+use borrow.Author.Rules.{rules}
+use native.Mathlib.Omega.{arith}
+use Rattle.image_peer.proofs.peers_clean.Given as goal
+
+abbrev pub invariant-loop-i : goal.invariant-loop-i
+invariant-loop-i l = (l.i ≤ l.n) × (peers_clean l.s (l.at + l.i * 44) (l.n - l.i) ≡ peers_clean l.s l.at l.n)
+
+abbrev pub decreases-loop-i : goal.decreases-loop-i
+decreases-loop-i l = l.n - l.i

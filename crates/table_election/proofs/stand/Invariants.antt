@@ -1,0 +1,22 @@
+use Prim.Native.Nat.{◌+◌, ◌-◌, ◌≤◌, ◌<◌}
+use mathlib.Core.Path.{◌≡◌, sym, ◌∙◌}
+use mathlib.Core.Logic.{⊎_elim}
+use native.Mathlib.Omega.{arith}
+use lib.ListN.{length, length-map, take}
+use borrow.Author.Tests.{eq-eqb, ne_eqb}
+use borrow.Author.Rules.{rules}
+use Rattle.law_lists.specs.Lists.{those}
+use Rattle.table.specs.Table.{entries}
+use Rattle.table_lookup.specs.Look.{is_live}
+use Rattle.table_counts.specs.Counts.{live_count}
+use Rattle.table_election.specs.Stand.{some_beats}
+use Rattle.law_lists.specs.Laws.{or-none, or-true}
+use Rattle.table_election.proofs.Beaten.{live_more, live_same, some_next, stood}
+use Rattle.table_election.proofs.stand.Given as goal
+
+abbrev pub invariant-loop-i : goal.invariant-loop-i
+invariant-loop-i l =
+    (l.i ≤ l.n) × (l.live ≤ l.i) × (l.live ≡ length (those is_live (take l.i l.peers))) × (l.theirs ≡ some_beats l.own (take l.i l.peers))
+
+abbrev pub decreases-loop-i : goal.decreases-loop-i
+decreases-loop-i l = l.n - l.i

@@ -116,8 +116,8 @@ fresh-due κs a z e h = h
 pub hello-due : Answers call_questions.hello_due.Kinds.ps call_questions.hello_due.Kinds.r call_questions.hello_due.Reads.Learnt (λ κs (p, _). hello_due p)
 hello-due κs a z e h = h
 
-pub is_live : Answers call_questions.is_live.Kinds.ps call_questions.is_live.Kinds.r call_questions.is_live.Reads.Learnt (λ κs (p, (m, _)). asked_live p m)
-is_live κs a z e h = h
+pub is-live : Answers call_questions.is_live.Kinds.ps call_questions.is_live.Kinds.r call_questions.is_live.Reads.Learnt (λ κs (p, (m, _)). asked_live p m)
+is-live κs a z e h = h
 
 pub is-potential : Answers call_questions.is_potential.Kinds.ps call_questions.is_potential.Kinds.r call_questions.is_potential.Reads.Learnt (λ κs (p, (m, _)). asked_potential p m)
 is-potential κs a z e h = h

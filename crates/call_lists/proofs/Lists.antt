@@ -15,11 +15,15 @@ use Rattle.base_mi.specs.declared.entry.Entry.{Entry}
 use Rattle.base_mi.specs.Entry.{entry_octets, entries_of}
 use Rattle.table.specs.declared.Peer.{Peer}
 use Rattle.table.specs.declared.Table.{Table}
-use Rattle.table_counts.specs.Counts.{entry_of, live_list, potential_list}
+use Rattle.table_counts.specs.Counts.{is_of, entry_of, live_list, potential_list}
 use Rattle.table_counts.proofs.Listing.{live-listed, potential-listed}
 use Rattle.frame_writer.specs.Frame.{set_header, list_octets, list_set}
 use Rattle.frame_writer.proofs.Laws.{length-list, no-list, some-list, length_some}
 use Rattle.call_lists.specs.Lists.{peer_list}
+
+-- the entries of those that are asked for, of the first i peers
+abbrev pub picked : Bool → List Peer → ℕ → List Entry
+picked live peers i = map entry_of (those (is_of live) (take i peers))
 
 -- a run of stores before another may be made last
 sets-swap : (l : List ℕ) (i j : ℕ) (a b : List ℕ) → i + length a ≤ j → sets (sets l j b) i a ≡ sets (sets l i a) j b

@@ -15,7 +15,7 @@ use Rattle.table_counts.specs.Counts.{is_of, entry_of}
 use Rattle.frame_writer.specs.Frame.{set_header, list_octets}
 use Rattle.frame_writer.proofs.Laws.{unmapped}
 use Rattle.call_lists.specs.Lists.{list_type, peer_list}
-use Rattle.call_lists.proofs.Lists.{entry_kept, entry_gone, none-stored, some_stored}
+use Rattle.call_lists.proofs.Lists.{picked, entry_kept, entry_gone, none-stored, some_stored}
 use Rattle.call_lists.proofs.put_list.Given as goal
 
 abbrev pub invariant-loop-i : goal.invariant-loop-i

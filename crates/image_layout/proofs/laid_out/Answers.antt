@@ -53,7 +53,7 @@ loop-i-preserved c = let a = c.args in
     let z = a.sizes.now in
     let l = c.loop-i in
     let r = c.u16_at-in-loop-i-2 in
-    let below = body_below s _ r.result (get_or z l.i 0) c.type_inv.sizes r.ensures (c.type_inv.s l.i).fits in
+    let below = body_below s _ r.result (get_or z l.i 0) c.type_inv.s r.ensures (c.type_inv.sizes l.i).fits in
     let o = c.u32_at.ensures in
     let turn = laid-turn s z l.i l.at c.loop-i-test.true (sym c.u16_at-in-loop-i.ensures ∙ c.if-u16_at-i.false) (sym o ∙ c.if-u32_at-at.false) in (
       omega arith,

@@ -1,9 +1,8 @@
 // Each op of a call script: its call, its line.
 ghost use Rattle.std.specs.Prelude.{◌≤◌};
 
-use crate::shape::Place;
 use crate::state::{Played, State};
-use crate::{listing, print, shape, state, status};
+use crate::{listing, print, state, status};
 use call_accept::Answer as Heard;
 use call_send::Answer as Sent;
 use frame_writer::Wrote;
@@ -186,11 +185,8 @@ fn act(p: Participant, op: u8, d: &[u8], out: &mut [u8]) -> Played {
     }
 }
 
-// One record, which stands at a place of the script.
-pub(crate) fn play(s: State, at: Place, op: u8, d: &[u8], out: &mut [u8]) -> Played {
-    if !shape::good(at, op, d) {
-        return state::malformed(s, out);
-    }
+// One record, of its op's shape.
+pub(crate) fn play(s: State, op: u8, d: &[u8], out: &mut [u8]) -> Played {
     if op == 1 {
         return make(s, d, out);
     }

@@ -1,61 +1,151 @@
-// Where a program's octets come from, and the lines on standard error that say why none come. The same file in portshow and portcalls.
-use libc::{STDERR_FILENO, STDIN_FILENO};
+// Where a program's octets come from, and why none come. The same file in portshow and portcalls.
+ghost use Rattle.std.specs.Prelude.{◌≡◌, ◌<◌, ◌≤◌, ◌↔◌, length, take, OnOk, IsOk};
+ghost use Rattle.std.specs.Io.KnownBytes.{Consumes, IsAtEnd};
 
-pub(crate) fn complain(what: &[u8]) {
-    crate::begin();
-    crate::put(STDERR_FILENO, what);
-    crate::put(STDERR_FILENO, b"\n");
+use std::env::FillError;
+use std::fmt::Write;
+use std::io::Read;
+use std::rt::{Env, Files};
+use std::{fmt, fs, io, str};
+
+// The room for a file's name.
+pub(crate) const NAME: usize = 1024;
+
+// What a program's words ask for: its help, or its work on standard input or on a file.
+#[derive(Clone, Copy)]
+pub(crate) enum Asked<'a> {
+    Help,
+    Input,
+    File(&'a str),
 }
 
-// What failed, and the system's words on why.
-pub(crate) fn failed(what: &[u8], name: &[u8]) {
-    crate::begin();
-    crate::put(STDERR_FILENO, what);
-    os::fail(name);
+// Why a program ends before its work is done.
+#[derive(Clone, Copy)]
+pub(crate) enum Fault<'a> {
+    LongName,
+    NoText,
+    TwoFiles,
+    NoOption,
+    Unopened(&'a str, io::Error),
+    Unread(io::Error),
+    Unwritten(io::Error),
 }
 
-// An option has fewer than eight octets, and no argument has one that is 0.
-fn is(word: &[u8], option: &[u8]) -> bool {
-    base_octets::u64_at(word, 0) == base_octets::u64_at(option, 0)
+impl fmt::Display for Fault<'_> {
+    fn fmt<W: fmt::Write>(&self, f: &mut fmt::Formatter<W>) -> fmt::Result {
+        match *self {
+            Fault::LongName => f.write_str("the file's name: File name too long"),
+            Fault::NoText => f.write_str("the file's name: it is not UTF-8"),
+            Fault::TwoFiles => f.write_str("one file at most is read; --help tells more"),
+            Fault::NoOption => f.write_str("no such option; --help tells more"),
+            Fault::Unopened(name, e) => write!(f, "cannot read {name}: {}", Why(e)),
+            Fault::Unread(e) => write!(f, "a read failed: {}", Why(e)),
+            Fault::Unwritten(e) => write!(f, "cannot write: {}", Why(e)),
+        }
+    }
 }
 
-// The descriptor to read: of the file that is named, or standard input. -1 if there is nothing to read, once that is said.
-pub(crate) fn named() -> i32 {
-    if os::arg_count() < 2 {
-        return STDIN_FILENO;
+// The system's words on a failure, without the number that std says behind them.
+#[derive(Clone, Copy)]
+struct Why(io::Error);
+
+impl fmt::Display for Why {
+    fn fmt<W: fmt::Write>(&self, f: &mut fmt::Formatter<W>) -> fmt::Result {
+        let mut words = Words { to: f, over: false };
+        write!(words, "{}", self.0)
     }
-    let mut name = [0u8; 1024];
-    let n = os::arg(1, &mut name);
-    if os::errno() != 0 {
-        failed(b"", b"the file's name");
-        return -1;
-    }
-    let word = &name[..n];
-    if is(word, b"--help") {
-        crate::help();
-        return -1;
-    }
-    if is(word, b"-h") {
-        crate::help();
-        return -1;
-    }
-    if os::arg_count() > 2 {
-        complain(b"one file at most is read; --help tells more");
-        return -1;
-    }
-    if base_octets::octet(word, 0) == b'-' {
-        complain(b"no such option; --help tells more");
-        return -1;
-    }
-    let fd = os::open_read(word);
-    if fd < 0 {
-        failed(b"cannot read ", word);
-    }
-    fd
 }
 
-// A read stops where the input ends and where it fails: one more tells which.
-pub(crate) fn at_end(fd: i32) -> bool {
-    let mut one = [0u8; 1];
-    libc::read(fd, &mut one) >= 0
+// What passes on the text up to the number.
+#[derive(Drop)]
+struct Words<'a, W> {
+    to: &'a mut W,
+    over: bool,
+}
+
+impl<W: fmt::Write> fmt::Write for Words<'_, W> {
+    fn write_str(&mut self, s: &str) -> fmt::Result {
+        if self.over {
+            return Ok(());
+        }
+        match s.split_once(" (os error ") {
+            Some((last, _)) => {
+                self.over = true;
+                self.to.write_str(last)
+            }
+            None => self.to.write_str(s),
+        }
+    }
+}
+
+// What the words after the program's name ask for. The first of them goes into `name`.
+pub(crate) fn wanted<'a, R: Env>(rt: &R, name: &'a mut [u8]) -> Result<Asked<'a>, Fault<'a>> {
+    match rt.arg(1, name) {
+        Ok(n) => meant(&name[..n], is_given(rt, 2)),
+        Err(FillError::NotPresent) => Ok(Asked::Input),
+        Err(FillError::TooLong) => Err(Fault::LongName),
+    }
+}
+
+fn is_given<R: Env>(rt: &R, i: usize) -> bool {
+    let mut none = [0u8; 0];
+    !matches!(rt.arg(i, &mut none), Err(FillError::NotPresent))
+}
+
+// What the first word asks for, where others may follow it.
+fn meant(word: &[u8], others: bool) -> Result<Asked<'_>, Fault<'_>> {
+    match word {
+        b"--help" | b"-h" => Ok(Asked::Help),
+        _ if others => Err(Fault::TwoFiles),
+        [b'-', ..] => Err(Fault::NoOption),
+        _ => match str::from_utf8(word) {
+            Ok(name) => Ok(Asked::File(name)),
+            Err(_) => Err(Fault::NoText),
+        },
+    }
+}
+
+pub(crate) fn open<'a, R: Files>(rt: &R, name: &'a str) -> Result<R::File, Fault<'a>> {
+    match fs::open(rt, name) {
+        Ok(file) => Ok(file),
+        Err(e) => Err(Fault::Unopened(name, e)),
+    }
+}
+
+// What reading came to.
+pub(crate) fn if_read(read: io::Result<()>) -> Result<(), Fault<'static>>
+    ensures { IsOk result ↔ IsOk read }
+{
+    match read {
+        Ok(()) => Ok(()),
+        Err(e) => Err(Fault::Unread(e)),
+    }
+}
+
+// What writing came to.
+pub(crate) fn if_written(written: io::Result<()>) -> Result<(), Fault<'static>>
+    ensures { IsOk result ↔ IsOk written }
+{
+    match written {
+        Ok(()) => Ok(()),
+        Err(e) => Err(Fault::Unwritten(e)),
+    }
+}
+
+// Reads until the space is full, the input ends or a read fails, and answers how many octets there were, and how the last read went.
+pub(crate) fn fill<R: Read>(from: &mut R, space: &mut [u8]) -> (usize, io::Result<()>)
+    ensures bound { result.0 ≤ length space.new }
+    ensures prefix { result.0 ≡ length (take result.0 space.new) }
+    ensures octets { Consumes (R.remaining from.old) (R.remaining from.new) (take result.0 space.new) }
+    ensures end { OnOk result.1 (result.0 < length space.new → IsAtEnd (R.remaining from.new)) }
+{
+    let mut done = 0;
+    while done < space.len() {
+        match from.read(&mut space[done..]) {
+            Ok(0) => return (done, Ok(())),
+            Ok(n) => done += n,
+            Err(e) => return (done, Err(e)),
+        }
+    }
+    (done, Ok(()))
 }

@@ -1,6 +1,8 @@
 // Text into a buffer, from a place on; each answers the next place.
 use base_mi::Mi;
 use page::line::Line;
+use std::fmt;
+use std::fmt::Write;
 
 pub(crate) fn put(out: &mut [u8], at: usize, x: u8) -> usize {
     if at < out.len() {
@@ -29,16 +31,30 @@ pub(crate) fn line(out: &mut [u8], at: usize, l: Line) -> usize {
     words(out, at, &text[..n])
 }
 
+// A text that is written into a buffer as a format makes it.
+#[derive(Drop)]
+struct Text<'a> {
+    out: &'a mut [u8],
+    at: usize,
+}
+
+impl fmt::Write for Text<'_> {
+    fn write_str(&mut self, s: &str) -> fmt::Result {
+        self.at = words(self.out, self.at, s.as_bytes());
+        Ok(())
+    }
+}
+
 pub(crate) fn decimal(out: &mut [u8], at: usize, x: u64) -> usize {
-    let mut text = [0u8; 20];
-    let k = io::decimal(x, &mut text);
-    words(out, at, &text[..k])
+    let mut text = Text { out, at };
+    let _ = write!(text, "{x}");
+    text.at
 }
 
 pub(crate) fn hex(out: &mut [u8], at: usize, x: u64, width: usize) -> usize {
-    let mut text = [0u8; 16];
-    let k = io::hex(x, width, &mut text);
-    words(out, at, &text[..k])
+    let mut text = Text { out, at };
+    let _ = write!(text, "{x:0width$x}");
+    text.at
 }
 
 pub(crate) fn mi(out: &mut [u8], at: usize, m: Mi) -> usize {

@@ -1,52 +1,52 @@
-// Whether a record has its op's shape. What is wrong with it is said on standard error.
-use libc::STDERR_FILENO;
+// Whether a record has its op's shape, and what is wrong with one that hasn't.
+use std::fmt;
 
 // Which record of the script it is, from 1 on, and the octet at which it begins.
-#[derive(Drop)]
+#[derive(Clone, Copy)]
 pub(crate) struct Place {
     pub(crate) record: u64,
     pub(crate) octet: u64,
 }
 
-fn words(s: &[u8]) {
-    io::write_all(STDERR_FILENO, s);
+// What is wrong with a record: its input ends within it, its op isn't in the table, its payload of so many octets is too short or too
+// long for its op, or its report is none.
+#[derive(Clone, Copy)]
+pub(crate) enum Wrong {
+    Cut,
+    Op(u8),
+    Short(usize, u8),
+    Long(usize, u8),
+    Report(u8),
 }
 
-fn number(s: &[u8], x: u64) {
-    words(s);
-    io::print_decimal(STDERR_FILENO, x);
+impl fmt::Display for Wrong {
+    fn fmt<W: fmt::Write>(&self, f: &mut fmt::Formatter<W>) -> fmt::Result {
+        match *self {
+            Wrong::Cut => f.write_str("the input ends within it"),
+            Wrong::Op(op) => write!(f, "op {op} is not in the table"),
+            Wrong::Short(len, op) => write!(f, "payload length {len} is too short for op {op}"),
+            Wrong::Long(len, op) => write!(f, "payload length {len} is too long for op {op}"),
+            Wrong::Report(what) => write!(f, "report {what} is neither 1 nor 2"),
+        }
+    }
 }
 
-fn begin(at: Place) {
-    crate::begin();
-    number(b"record ", at.record);
-    number(b" at octet ", at.octet);
-    words(b": ");
+// A malformed record: where it is, and what is wrong with it.
+#[derive(Clone, Copy)]
+pub(crate) struct Malformed {
+    pub(crate) at: Place,
+    pub(crate) wrong: Wrong,
 }
 
-pub(crate) fn cut(at: Place) {
-    begin(at);
-    words(b"the input ends within it\n");
-}
-
-fn no_op(at: Place, op: u8) {
-    begin(at);
-    number(b"op ", op as u64);
-    words(b" is not in the table\n");
-}
-
-fn no_length(at: Place, op: u8, len: usize, what: &[u8]) {
-    begin(at);
-    number(b"payload length ", len as u64);
-    words(what);
-    number(b" for op ", op as u64);
-    words(b"\n");
-}
-
-fn no_report(at: Place, what: u8) {
-    begin(at);
-    number(b"report ", what as u64);
-    words(b" is neither 1 nor 2\n");
+impl fmt::Display for Malformed {
+    fn fmt<W: fmt::Write>(&self, f: &mut fmt::Formatter<W>) -> fmt::Result {
+        let at = self.at;
+        write!(
+            f,
+            "record {} at octet {}: {}",
+            at.record, at.octet, self.wrong
+        )
+    }
 }
 
 // How many octets an op's fixed fields have.
@@ -87,22 +87,18 @@ fn reports(d: &[u8]) -> bool {
     }
 }
 
-pub(crate) fn good(at: Place, op: u8, d: &[u8]) -> bool {
+pub(crate) fn check(op: u8, d: &[u8]) -> Result<(), Wrong> {
     if !in_table(op) {
-        no_op(at, op);
-        return false;
+        return Err(Wrong::Op(op));
     }
     if d.len() < fixed(op) {
-        no_length(at, op, d.len(), b" is too short");
-        return false;
+        return Err(Wrong::Short(d.len(), op));
     }
     if fixed(op) < d.len() && !open_ended(op) {
-        no_length(at, op, d.len(), b" is too long");
-        return false;
+        return Err(Wrong::Long(d.len(), op));
     }
     if op == 7 && !reports(d) {
-        no_report(at, base_octets::octet(d, 0));
-        return false;
+        return Err(Wrong::Report(base_octets::octet(d, 0)));
     }
-    true
+    Ok(())
 }

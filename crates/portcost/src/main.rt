@@ -1,21 +1,21 @@
 // What a call costs: makes a participant by the first calls of a script, plays its last call n times, and prints a check line.
 #![tactic(auto)]
 
-use libc::{STDIN_FILENO, STDOUT_FILENO};
-
 mod play;
 mod setup;
 
-fn say(sum: u64) {
-    let mut text = [0u8; 20];
-    let n = io::decimal(sum, &mut text);
-    io::write_all(STDOUT_FILENO, b"check ");
-    io::write_all(STDOUT_FILENO, &text[..n]);
-    io::write_all(STDOUT_FILENO, b"\n");
+use std::io;
+use std::io::Read;
+
+// As much of the input is read; where it is shorter, zeros follow.
+const ROOM: usize = 4096;
+
+fn say<P: Print>(rt: &P, sum: u64) -> io::Result<()> {
+    println!(rt; "check {sum}")
 }
 
 // Records as in a call script; op 12 is the last, the number of plays in 4 octets with the op and the payload to play behind it.
-fn cost(script: &[u8]) {
+fn cost(script: &[u8]) -> Option<u64> {
     let mut p = setup::blank();
     let mut at: usize = 0;
     while at < script.len() {
@@ -23,16 +23,20 @@ fn cost(script: &[u8]) {
         let n = base_octets::u16_at(script, at + 1) as usize;
         let d = base_runs::part(script, at + 3, n);
         if op == 12 {
-            say(play::often(p, d));
-            return;
+            return Some(play::often(p, d));
         }
         p = setup::called(p, op, d);
         at += 3 + n;
     }
+    None
 }
 
-fn main() {
-    let mut space = io::buffer();
-    io::read_full(STDIN_FILENO, &mut space);
-    cost(&space);
+fn main(rt: HostRuntime) -> io::Result<()> {
+    let mut script = Vec::new(rt.alloc());
+    rt.reader().take(ROOM as u64).read_to_end(&mut script)?;
+    script.resize(ROOM, 0)?;
+    match cost(&script) {
+        Some(sum) => say(&rt, sum),
+        None => Ok(()),
+    }
 }

@@ -1,43 +1,20 @@
 // Prints the line of a port image: of the file that its argument names, or of standard input.
 #![tactic(auto)]
 
-ghost use Rattle.io.specs.Counts.{IsPrefixLen};
-
-use libc::{STDERR_FILENO, STDIN_FILENO, STDOUT_FILENO};
-use page::line::Line;
+ghost use Rattle.std.specs.Prelude.{◌<◌, length, OnOk, IfSome};
+ghost use Rattle.page_shown.specs.Show.{shown_of};
+ghost use Rattle.portshow.specs.Written.{WritesLine};
 
 mod input;
 
-// How showing ended.
-#[derive(Drop)]
-enum Shown {
-    Well,
-    Unread,
-    Unsaid,
-}
+use input::{Asked, Fault};
+use page::line::Line;
+use std::fmt::Display;
+use std::io;
+use std::io::{Read, Write};
+use std::rt::{Env, Files};
 
-// All of it, octet by octet from where a write was cut short: unlike io::write_all it needs no room of its own.
-pub(crate) fn put(fd: i32, text: &[u8]) -> bool {
-    let mut done = io::count(libc::write(fd, text), text);
-    while done < text.len() {
-        let one = [text[done]];
-        if libc::write(fd, &one) != 1 {
-            return false;
-        }
-        done += 1;
-    }
-    true
-}
-
-// The beginning of each line on standard error.
-pub(crate) fn begin() {
-    put(STDERR_FILENO, b"portshow: ");
-}
-
-pub(crate) fn help() {
-    let said = put(
-        STDOUT_FILENO,
-        b"portshow [FILE]
+const HELP: &str = "portshow [FILE]
 
 Prints the line of the port image in FILE, or on standard input if no file is named:
     sent M live L potential P server S key K
@@ -45,72 +22,61 @@ M is the number of the last message sent, L and P count the Live and the Potenti
 peers, S is the Key Server (none, self, or its member identifier in hex), and K is
 the number of the latest key, or none. What is no well-formed image gives the line
     refused 16
-",
-    );
-    if !said {
-        input::failed(b"", b"cannot write");
-    }
+";
+
+// A line on standard error. Nobody can be told where that fails.
+fn complain<D: Display + Drop>(rt: &impl Eprint, what: D) {
+    let _ = eprintln!(rt; "portshow: {what}");
 }
 
-fn say(l: Line) -> bool {
+fn help<P: Print>(rt: &P) -> Result<(), Fault<'static>> {
+    input::if_written(rt.print(HELP))
+}
+
+fn say<W: Write>(out: &mut W, l: Line) -> io::Result<()>
+    ensures { OnOk result (WritesLine (W.contents out.old) (W.contents out.new) l) }
+{
     let text = l.text;
     let n = l.len;
     if n <= text.len() {
-        return put(STDOUT_FILENO, &text[..n]);
+        return out.write_all(&text[..n]);
     }
-    true
+    Ok(())
 }
 
-// What io::read_full does, octet by octet past the first read, without room of its own.
-fn fill(fd: i32, space: &mut [u8]) -> usize
-    ensures { IsPrefixLen result space.new }
+// No good image fills the space, so none is cut.
+fn show<R: Read, W: Write, E: Eprint>(
+    rt: &E,
+    from: &mut R,
+    out: &mut W,
+) -> Result<(), Fault<'static>>
+    ensures { OnOk result (IfSome (R.remaining from.old)
+        (λ image. length image < 1025 → WritesLine (W.contents out.old) (W.contents out.new) (shown_of image))) }
 {
-    let mut done = io::count(libc::read(fd, space), space);
-    let mut one = [0u8; 1];
-    while done < space.len() {
-        if libc::read(fd, &mut one) != 1 {
-            return done;
-        }
-        space[done] = one[0];
-        done += 1;
-    }
-    done
-}
-
-// No good image fills the buffer, so none is cut.
-fn show(fd: i32) -> Shown {
-    let mut space = [0u8; 1024];
-    let n = fill(fd, &mut space);
-    if !input::at_end(fd) {
-        return Shown::Unread;
-    }
+    let mut space = [0u8; 1025];
+    let (n, read) = input::fill(from, &mut space);
+    input::if_read(read)?;
     if n == 0 {
-        input::complain(b"there are no octets to read");
+        complain(rt, "there are no octets to read");
     }
-    if say(page_shown::show(&space[..n])) {
-        Shown::Well
-    } else {
-        Shown::Unsaid
+    let l = page_shown::show(&space[..n]);
+    input::if_written(say(out, l))
+}
+
+fn start<'a, R: Env + Files + Input + Print + Eprint>(
+    rt: &R,
+    name: &'a mut [u8],
+) -> Result<(), Fault<'a>> {
+    match input::wanted(rt, name)? {
+        Asked::Help => help(rt),
+        Asked::Input => show(rt, &mut rt.reader(), &mut io::writer(rt)),
+        Asked::File(file) => show(rt, &mut input::open(rt, file)?, &mut io::writer(rt)),
     }
 }
 
-// Said here and not where it happens: what says it needs 4,096 octets of stack (docs/COST.md).
-fn tell(s: Shown) {
-    match s {
-        Shown::Well => {}
-        Shown::Unread => input::failed(b"", b"a read failed"),
-        Shown::Unsaid => input::failed(b"", b"cannot write"),
-    }
-}
-
-// Two calls of `show` keep it from being taken into `main`, where it would stand beside the file's name.
-fn main() {
-    if os::arg_count() < 2 {
-        tell(show(STDIN_FILENO));
-        return;
-    }
-    let fd = input::named();
-    if fd >= 0 {
-        tell(show(fd));
+fn main(rt: HostRuntime) {
+    let mut name = [0u8; input::NAME];
+    if let Err(fault) = start(&rt, &mut name) {
+        complain(&rt, fault);
     }
 }

@@ -5,12 +5,15 @@
 use call_accept::Received;
 use call_send::Sent;
 use frame_writer::Wrote;
-use libc::{STDIN_FILENO, STDOUT_FILENO};
 use page::line::Line;
 use participant::Participant;
 use participant::call::Called;
-use std::num;
+use std::io::Read;
+use std::{io, num};
 use table_election::Server;
+
+// As much of the input is read; where it is shorter, zeros follow.
+const ROOM: usize = 96;
 
 fn of_called(r: Called) -> u64 {
     let q = r.participant;
@@ -85,13 +88,10 @@ fn called(p: Participant, op: u8, d: &[u8]) -> u64 {
     num::wrapping_add_u64(before, x)
 }
 
-fn main() {
-    let mut d = [0u8; 96];
-    io::read_full(STDIN_FILENO, &mut d);
+fn main(rt: HostRuntime) -> io::Result<()> {
+    let mut d = Vec::new(rt.alloc());
+    rt.reader().take(ROOM as u64).read_to_end(&mut d)?;
+    d.resize(ROOM, 0)?;
     let sum = called(call_creation::blank(), 19, &d);
-    let mut text = [0u8; 20];
-    let n = io::decimal(sum, &mut text);
-    io::write_all(STDOUT_FILENO, b"check ");
-    io::write_all(STDOUT_FILENO, &text[..n]);
-    io::write_all(STDOUT_FILENO, b"\n");
+    println!(rt; "check {sum}")
 }

@@ -12,8 +12,8 @@ returns-then-p-eq0 c = rw (eq-eqb _ _ c.if-p-eq0.true)
 
 pub returns-then-not-fresh : goal.returns-then-not-fresh
 unfolding pause_over
-returns-then-not-fresh c = rw (ne_eqb _ _ c.if-p-eq0.false, sym c.fresh.ensures ∙ not-true _ (ap not c.if-not-fresh.true))
+returns-then-not-fresh c = rw (ne_eqb _ _ c.if-p-eq0.false, sym c.fresh.ensures ∙ c.if-not-fresh.true)
 
 pub returns : goal.returns
 unfolding pause_over
-returns c = rw (ne_eqb _ _ c.if-p-eq0.false, sym c.fresh.ensures ∙ not-false _ (ap not c.if-not-fresh.false), c.potential_count.ensures)
+returns c = rw (ne_eqb _ _ c.if-p-eq0.false, sym c.fresh.ensures ∙ c.if-not-fresh.false, c.potential_count.ensures)

@@ -16,21 +16,21 @@ unfolding own_good unused_zero keys_good
 apart t p = by-record (set_table t p)
 
 pub returns-then-not-own_good : goal.returns-then-not-own_good
-returns-then-not-own_good c = rw (apart c.args.t c.args.p, sym c.own_good.ensures ∙ not-true _ (ap not c.if-not-own_good.true))
+returns-then-not-own_good c = rw (apart c.args.t c.args.p, sym c.own_good.ensures ∙ c.if-not-own_good.true)
 
 pub returns-then-not-peers_good : goal.returns-then-not-peers_good
 returns-then-not-peers_good c =
     rw (
       apart c.args.t c.args.p,
-      sym c.own_good.ensures ∙ not-false _ (ap not c.if-not-own_good.false),
-      sym c.peers_good.ensures ∙ not-true _ (ap not c.if-not-peers_good.true),
+      sym c.own_good.ensures ∙ c.if-not-own_good.false,
+      sym c.peers_good.ensures ∙ c.if-not-peers_good.true,
     )
 
 pub returns : goal.returns
 returns c =
     rw (
       apart c.args.t c.args.p,
-      sym c.own_good.ensures ∙ not-false _ (ap not c.if-not-own_good.false),
-      sym c.peers_good.ensures ∙ not-false _ (ap not c.if-not-peers_good.false),
+      sym c.own_good.ensures ∙ c.if-not-own_good.false,
+      sym c.peers_good.ensures ∙ c.if-not-peers_good.false,
     )
     c.keys_good.ensures

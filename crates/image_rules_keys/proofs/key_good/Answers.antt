@@ -27,7 +27,7 @@ returns-then-not-use_good c =
     rw (
       lt-ltb a.k.an 4 (omega arith),
       lt-ltb a.k.confidentiality 4 (omega arith),
-      sym c.use_good.ensures ∙ not-true _ (ap not c.if-not-use_good.true),
+      sym c.use_good.ensures ∙ c.if-not-use_good.true,
     )
 
 pub returns : goal.returns
@@ -37,6 +37,6 @@ returns c =
     rw (
       lt-ltb a.k.an 4 (omega arith),
       lt-ltb a.k.confidentiality 4 (omega arith),
-      sym c.use_good.ensures ∙ not-false _ (ap not c.if-not-use_good.false),
+      sym c.use_good.ensures ∙ c.if-not-use_good.false,
     )
     c.number_good.ensures

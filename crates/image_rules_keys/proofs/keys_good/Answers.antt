@@ -8,22 +8,22 @@ use Rattle.image_rules_keys.proofs.keys_good.Goals as goal
 
 pub returns-then-not-slot_good : goal.returns-then-not-slot_good
 unfolding keys_good
-returns-then-not-slot_good c = rw (sym c.slot_good.ensures ∙ not-true _ (ap not c.if-not-slot_good.true))
+returns-then-not-slot_good c = rw (sym c.slot_good.ensures ∙ c.if-not-slot_good.true)
 
 pub returns-then-not-slot_good-2 : goal.returns-then-not-slot_good-2
 unfolding keys_good
 returns-then-not-slot_good-2 c =
     rw (
-      sym c.slot_good.ensures ∙ not-false _ (ap not c.if-not-slot_good.false),
-      sym c.slot_good-2.ensures ∙ not-true _ (ap not c.if-not-slot_good-2.true),
+      sym c.slot_good.ensures ∙ c.if-not-slot_good.false,
+      sym c.slot_good-2.ensures ∙ c.if-not-slot_good-2.true,
     )
 
 pub returns-then-latest : goal.returns-then-latest
 unfolding keys_good
 returns-then-latest c =
     rw (
-      sym c.slot_good.ensures ∙ not-false _ (ap not c.if-not-slot_good.false),
-      sym c.slot_good-2.ensures ∙ not-false _ (ap not c.if-not-slot_good-2.false),
+      sym c.slot_good.ensures ∙ c.if-not-slot_good.false,
+      sym c.slot_good-2.ensures ∙ c.if-not-slot_good-2.false,
       c.if-latest.true,
       c.is_key.ensures,
     )
@@ -32,7 +32,7 @@ pub returns : goal.returns
 unfolding keys_good
 returns c =
     rw (
-      sym c.slot_good.ensures ∙ not-false _ (ap not c.if-not-slot_good.false),
-      sym c.slot_good-2.ensures ∙ not-false _ (ap not c.if-not-slot_good-2.false),
+      sym c.slot_good.ensures ∙ c.if-not-slot_good.false,
+      sym c.slot_good-2.ensures ∙ c.if-not-slot_good-2.false,
       c.if-latest.false,
     )

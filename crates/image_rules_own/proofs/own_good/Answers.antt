@@ -16,7 +16,7 @@ unfolding own_good
 returns-then-not-unused_zero c =
     rw (
       sym c.bad_start.ensures ∙ c.if-bad_start.false,
-      sym c.unused_zero.ensures ∙ not-true _ (ap not c.if-not-unused_zero.true),
+      sym c.unused_zero.ensures ∙ c.if-not-unused_zero.true,
     )
 
 pub returns-then-p : goal.returns-then-p
@@ -25,7 +25,7 @@ returns-then-p c =
     let a = c.args in
     rw (
       sym c.bad_start.ensures ∙ c.if-bad_start.false,
-      sym c.unused_zero.ensures ∙ not-false _ (ap not c.if-not-unused_zero.false),
+      sym c.unused_zero.ensures ∙ c.if-not-unused_zero.false,
       lt-leb a.p.sent a.p.clock c.if-p.true,
     )
 
@@ -35,6 +35,6 @@ returns c =
     let a = c.args in
     rw (
       sym c.bad_start.ensures ∙ c.if-bad_start.false,
-      sym c.unused_zero.ensures ∙ not-false _ (ap not c.if-not-unused_zero.false),
+      sym c.unused_zero.ensures ∙ c.if-not-unused_zero.false,
       le-leb a.p.sent a.p.clock (omega arith),
     )

@@ -16,7 +16,7 @@ unfolding peer_good
 returns-then-not-times_good c =
     rw (
       lt-ltb c.args.q.capability 4 (omega arith),
-      sym c.times_good.ensures ∙ not-true _ (ap not c.if-not-times_good.true),
+      sym c.times_good.ensures ∙ c.if-not-times_good.true,
     )
 
 pub returns-then-q-eq0 : goal.returns-then-q-eq0
@@ -24,7 +24,7 @@ unfolding peer_good
 returns-then-q-eq0 c =
     rw (
       lt-ltb c.args.q.capability 4 (omega arith),
-      sym c.times_good.ensures ∙ not-false _ (ap not c.if-not-times_good.false),
+      sym c.times_good.ensures ∙ c.if-not-times_good.false,
       eq-eqb _ _ c.if-q-eq0.true,
     )
 
@@ -33,7 +33,7 @@ unfolding peer_good
 returns c =
     rw (
       lt-ltb c.args.q.capability 4 (omega arith),
-      sym c.times_good.ensures ∙ not-false _ (ap not c.if-not-times_good.false),
+      sym c.times_good.ensures ∙ c.if-not-times_good.false,
       ne_eqb _ _ c.if-q-eq0.false,
       c.same_mi.ensures,
     )

@@ -23,7 +23,7 @@ returns-then-not-peer_good c =
     let most = c.at_most-n in
     let whole : length c.args.t.peers ≡ 16 = search rules in
     let e = next c.args.t whole most.result c.loop-i.i most.ensures c.loop-i-test.true in
-    rw (e, sym c.peer_good.ensures ∙ not-true _ (ap not c.if-not-peer_good.true)) at c.loop-i.invariant
+    rw (e, sym c.peer_good.ensures ∙ c.if-not-peer_good.true) at c.loop-i.invariant
 
 pub returns-then-same_mi : goal.returns-then-same_mi
 unfolding peers_good
@@ -32,7 +32,7 @@ returns-then-same_mi c =
     let whole : length c.args.t.peers ≡ 16 = search rules in
     let e = next c.args.t whole most.result c.loop-i.i most.ensures c.loop-i-test.true in
     let f = next c.args.t whole most.result c.loop-j.j most.ensures c.loop-j-test.true in
-    let g = sym c.peer_good.ensures ∙ not-false _ (ap not c.if-not-peer_good.false) in
+    let g = sym c.peer_good.ensures ∙ c.if-not-peer_good.false in
     let found = rw (f, sym c.same_mi.ensures ∙ c.if-same_mi.true) at c.loop-j.invariant in
     rw (e, g, sym found) at c.loop-i.invariant
 
@@ -43,7 +43,7 @@ loop-i-preserved c =
     let whole : length c.args.t.peers ≡ 16 = search rules in
     let t = c.args.t in
     let e = next c.args.t whole most.result c.loop-i.i most.ensures c.loop-i-test.true in
-    let g = sym c.peer_good.ensures ∙ not-false _ (ap not c.if-not-peer_good.false) in
+    let g = sym c.peer_good.ensures ∙ c.if-not-peer_good.false in
     let end = drop-end (min t.count room) c.loop-j.j t.peers (rw most.ensures at c.loop-j-test.false) in
     let none = rw end at c.loop-j.invariant in
     rw (e, g, sym none) at c.loop-i.invariant

@@ -17,7 +17,7 @@ returns-then-not-fresh c =
     let a = c.args in
     rw (
       le-leb a.q.accepted a.clock (omega arith),
-      sym c.fresh.ensures ∙ not-true _ (ap not c.if-not-fresh.true),
+      sym c.fresh.ensures ∙ c.if-not-fresh.true,
     )
 
 pub returns-then-not-proof_fresh : goal.returns-then-not-proof_fresh
@@ -26,8 +26,8 @@ returns-then-not-proof_fresh c =
     let a = c.args in
     rw (
       le-leb a.q.accepted a.clock (omega arith),
-      sym c.fresh.ensures ∙ not-false _ (ap not c.if-not-fresh.false),
-      sym c.proof_fresh.ensures ∙ not-true _ (ap not c.if-not-proof_fresh.true),
+      sym c.fresh.ensures ∙ c.if-not-fresh.false,
+      sym c.proof_fresh.ensures ∙ c.if-not-proof_fresh.true,
     )
 
 pub returns : goal.returns
@@ -36,7 +36,7 @@ returns c =
     let a = c.args in
     rw (
       le-leb a.q.accepted a.clock (omega arith),
-      sym c.fresh.ensures ∙ not-false _ (ap not c.if-not-fresh.false),
-      sym c.proof_fresh.ensures ∙ not-false _ (ap not c.if-not-proof_fresh.false),
+      sym c.fresh.ensures ∙ c.if-not-fresh.false,
+      sym c.proof_fresh.ensures ∙ c.if-not-proof_fresh.false,
     )
     c.proof_ordered.ensures

@@ -10,8 +10,6 @@ use native.Mathlib.Nat.{add-zero, add_assoc}
 use lib.ListN.{length, get_or, set, take, drop, replicate, length-append, length-drop, take-append-drop, get_or-eq_default, get_or-append}
 use lib.Seq.{sets, sets-eq, drop-cons, take-add, take-suc, set_out, set_comm, get_or-drop, get_or-append-add, get_or-append_seam, length-take-le}
 use lib.Dec.{lit<}
-use mir.Syntax.{w8}
-use mir.Val.{Fits}
 use Rattle.base_octets.specs.Number.{be_at, be_of}
 use Rattle.base_octets.specs.Octets.{Octets}
 

@@ -1,5 +1,5 @@
 -- "Sending": what a frame says.
-use Rattle.std.specs.Prelude.{ℕ, ◌+◌, Bool, true, false, cond, not, ◌&&◌}
+use Rattle.std.specs.Prelude.{ℕ, ◌+◌, Bool, false, cond, not, ◌&&◌}
 use Rattle.table_counts.specs.Counts.{live_list, potential_list}
 use Rattle.table_election.specs.Stand.{is_theirs}
 use Rattle.frame_sets.specs.declared.kinds.KeyUse.{KeyUse}

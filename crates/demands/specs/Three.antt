@@ -2,7 +2,7 @@
 -- identifier and less than 6,000 ms before the clock, listed that identifier with one of the last four numbers we had by then sent under it
 -- since taking it. At most 16 peers stand in the table, none twice, never ourselves. Each key on record was handed out by us while we were
 -- elected, or came in a frame from a peer that was Live and elected at that moment." "The clock is the latest time in a call that succeeded."
-use Rattle.std.specs.Prelude.{ℕ, ◌≤◌, ◌≡◌, true, ◌↔◌, ◌⊎◌, length}
+use Rattle.std.specs.Prelude.{◌≤◌, ◌≡◌, true, ◌↔◌, ◌⊎◌, length}
 use mathlib.Core.List.{List, ◌∷◌, ◌++◌, Memᴰ}
 use Rattle.base_mi.specs.declared.Mi.{Mi}
 use Rattle.table.specs.declared.Peer.{Peer}

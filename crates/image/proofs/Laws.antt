@@ -1,7 +1,7 @@
 -- How long the parts of an image are, and the image as it is stored.
-use Prim.Native.Nat.{ℕ, ◌+◌, ◌*◌, ◌≤◌, min}
-use mathlib.Core.Path.{◌≡◌, ap, ap₂, sym, ◌∙◌}
-use mathlib.Core.List.{List, [], ◌∷◌, ◌++◌, append_assoc, append-nil}
+use Prim.Native.Nat.{ℕ, ◌+◌, ◌*◌, min}
+use mathlib.Core.Path.{◌≡◌, ap, sym, ◌∙◌}
+use mathlib.Core.List.{List, ◌++◌, append_assoc, append-nil}
 use native.Mathlib.Omega.{arith}
 use lib.ListN.{length, length-append, length-take}
 use lib.Seq.{sets}
@@ -12,11 +12,11 @@ use Rattle.table.specs.declared.Table.{Table}
 use Rattle.law_lists.specs.Laws.{by_cases}
 use Rattle.participant.specs.declared.Slot.{Slot}
 use Rattle.participant.specs.declared.Participant.{Participant}
-use Rattle.image_layout.specs.Layout.{contents_head, contents_entry, contents_entries, bodies, laid_of}
+use Rattle.image_layout.specs.Layout.{contents_entries, bodies, laid_of}
 use Rattle.image_layout.proofs.Laws.{length-head, length-entry}
 use Rattle.image_own.specs.Own.{own_octets}
 use Rattle.image_peer.specs.Peer.{peer_octets, peers_octets}
-use Rattle.image_key.specs.Key.{key_octets, slot_octets}
+use Rattle.image_key.specs.Key.{slot_octets}
 use Rattle.image_peer.proofs.Laws.{length-peer}
 use Rattle.image_key.proofs.Laws.{length-key}
 use Rattle.image_own.proofs.Lengths.{length-own}

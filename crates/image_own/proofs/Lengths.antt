@@ -1,5 +1,4 @@
 -- Lengths of the own record and its parts.
-use Prim.Native.Nat.{◌-◌}
 use mathlib.Core.Path.{◌≡◌}
 use lib.ListN.{length, length-append}
 use Rattle.base_octets.proofs.Laws.{length-be_of}

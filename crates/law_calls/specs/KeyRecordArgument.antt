@@ -1,5 +1,5 @@
 -- The argument for KeyRecord: `keyed_of` in each of its cases.
-use Rattle.std.specs.Prelude.{ℕ, ◌≡◌, List}
+use Rattle.std.specs.Prelude.{ℕ, List}
 use Rattle.std.proofs.Common.{inl, inr}
 use borrow.Author.Tests.{ne_eqb}
 use Rattle.base_mi.specs.declared.Mi.{Mi}

@@ -1,5 +1,5 @@
 -- "Bench cases": the starred ones as one table, and the one theorem over it. Rows that take more computing stand in files of their own.
-use Rattle.std.specs.Prelude.{ℕ, refl, Bool, true, false, List, [], ◌∷◌, ◌++◌, replicate, set}
+use Rattle.std.specs.Prelude.{ℕ, refl, true, false, List, [], ◌∷◌, ◌++◌, replicate, set}
 use Rattle.base_octets.specs.Number.{be_at, be_of}
 use Rattle.base_octets.specs.Run.{written}
 use Rattle.base_mi.specs.Mi.{mi_at, mi_octets}

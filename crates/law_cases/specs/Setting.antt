@@ -1,5 +1,5 @@
 -- Who and what the bench cases speak of: case 1's participant, frames of peers, and calls on it.
-use Rattle.std.specs.Prelude.{ℕ, zero, suc, ◌+◌, ◌*◌, Bool, true, false, List, [], ◌∷◌, ◌++◌, length, replicate}
+use Rattle.std.specs.Prelude.{ℕ, zero, suc, ◌+◌, ◌*◌, Bool, true, List, [], ◌∷◌, ◌++◌, length, replicate}
 use Rattle.base_mi.specs.declared.Mi.{Mi}
 use Rattle.table_lookup.specs.Look.{held_in, live_for, potential_for}
 use Rattle.participant.specs.declared.Participant.{Participant}

@@ -1,5 +1,5 @@
 -- Case 1's line on the port page, from the octets of its image.
-use Rattle.std.specs.Prelude.{ℕ, refl, List, [], ◌∷◌, take}
+use Rattle.std.specs.Prelude.{refl, List, [], ◌∷◌, take}
 use Rattle.base_octets.specs.Number.{be_at, be_of}
 use Rattle.base_octets.specs.Run.{part_of}
 use Rattle.base_mi.specs.Mi.{mi_at, mi_octets}

@@ -1,5 +1,5 @@
 -- The questions after any history: at the clock nothing is left to expire, so each asks the table as it stands.
-use Rattle.std.specs.Prelude.{ℕ, ◌≡◌, Bool, List}
+use Rattle.std.specs.Prelude.{◌≡◌, List}
 use Rattle.std.proofs.Common.{ap}
 use Rattle.base_mi.specs.declared.Mi.{Mi}
 use Rattle.table.specs.declared.Table.{Table}

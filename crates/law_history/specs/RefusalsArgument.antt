@@ -1,5 +1,5 @@
 -- The argument for Refusals: each answer's number is the first fact's that holds.
-use Rattle.std.specs.Prelude.{ℕ, ◌≡◌, Bool, true, false, cond, not, ◌&&◌, List, [], ◌∷◌, ◌++◌, map, ◌↔◌, length, eqb, ltb}
+use Rattle.std.specs.Prelude.{ℕ, ◌≡◌, Bool, true, false, cond, not, List, [], ◌∷◌, ◌++◌, map, ◌↔◌, length, eqb, ltb}
 use Rattle.std.proofs.Math.Path.{refl}
 use Rattle.std.proofs.Common.{ap, sym, ◌∙◌, eqb-true, eq-eqb}
 use Rattle.std.proofs.Math.Option.{Option, none, some}
@@ -9,7 +9,6 @@ use Rattle.base_octets.specs.Run.{written}
 use Rattle.law_lists.specs.Laws.{by_cases, never, clash, first-of, second-of}
 use Rattle.call_tick.specs.Tick.{ticked}
 use Rattle.participant.specs.declared.Participant.{Participant}
-use Rattle.participant.specs.declared.call.Answer.TheVariants as on_call
 use Rattle.participant.specs.First.{NoneHolds, numbered, First}
 use Rattle.participant.proofs.Settle.{first_holds, none-holds, first-number, none_number}
 use Rattle.call_new_mi.specs.Renew.{new_mi_of}
@@ -18,9 +17,8 @@ use Rattle.call_distribute.specs.Distribute.{distributed_of}
 use Rattle.call_judge.specs.Judge.{frame_facts}
 use Rattle.call_receive.specs.Receive.{table_facts, receive_facts, received_of}
 use Rattle.call_send.specs.Send.{send_facts, sent_of, left_by}
-use Rattle.frame_writer.specs.declared.Wrote.TheVariants as on_write
 use Rattle.image.specs.Image.{image_of}
-use Rattle.law_history.specs.Calls.{Call, receives, sends, distributes, ticks, renews, reports, asks, saves, to_receive, to_send, to_call, to_save, answer_of, answered, accepts}
+use Rattle.law_history.specs.Calls.{Call, receives, sends, distributes, ticks, renews, reports, asks, saves, answer_of, answered, accepts}
 use Rattle.law_history.specs.Steps.{facts, facts-numbered, accepted-zero, refused-leaves}
 use Rattle.law_history.specs.Refusals.{refusal_in, order, lent, left_in, InOrder, RefusedExactly, AcceptedExactly, RefusedSame, RefusedLeft}
 

@@ -1,7 +1,7 @@
 -- The table gone through once and changed in its place: the fast forms say what looking up and entering say.
-use Rattle.std.specs.Prelude.{ℕ, ◌+◌, ◌≤◌, ◌<◌, min, ◌≡◌, refl, Bool, true, false, cond, List, [], ◌∷◌, length, get_or, set, take, drop, leb, eqb}
-use Rattle.std.proofs.Common.{sym, ◌∙◌, arith, lt-ltb, le-leb, leb-true, leb-false, ne_eqb}
-use Rattle.std.proofs.lemmas.Bool.{lt-leb, eqb-false}
+use Rattle.std.specs.Prelude.{ℕ, ◌+◌, ◌≤◌, ◌<◌, min, ◌≡◌, refl, Bool, false, cond, List, [], ◌∷◌, length, get_or, set, take, drop, eqb}
+use Rattle.std.proofs.Common.{arith, lt-ltb, leb-false, ne_eqb}
+use Rattle.std.proofs.lemmas.Bool.{eqb-false}
 use Rattle.base_mi.specs.declared.Mi.{Mi}
 use Rattle.base_mi.specs.Mi.{mi_same}
 use Rattle.table.specs.declared.Peer.{Peer}
@@ -9,7 +9,7 @@ use Rattle.table.specs.declared.Table.{Table}
 use Rattle.table_lookup.specs.declared.Held.{Held}
 use Rattle.table_lookup.specs.declared.Held.TheVariants.{At, Missing}
 use Rattle.table_enter.specs.declared.Heard.{Heard}
-use Rattle.table.specs.Table.{room, blank_peer, entries, pushed}
+use Rattle.table.specs.Table.{blank_peer, entries, pushed}
 use Rattle.table_lookup.specs.Look.{seek, held_in, first_at, found_at, no_room_for}
 use Rattle.table_enter.specs.Enter.{held_peer, updated, replaced, entered_at, place_for, grown_by}
 use Rattle.table_expiry.proofs.Aging.{at-most-16}

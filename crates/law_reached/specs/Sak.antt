@@ -1,5 +1,5 @@
 -- A Distributed SAK set that the walk over a frame finds and that isn't empty: it stands in the frame and its KN is not 0.
-use Prim.Native.Nat.{ℕ, zero, suc, ◌+◌, ◌-◌, ◌^◌, ◌<◌}
+use Prim.Native.Nat.{ℕ, zero, suc, ◌+◌, ◌^◌, ◌<◌}
 use Rattle.std.specs.Prelude.{◌≡◌, true, false, List, length, get_or, leb, eqb}
 use Rattle.std.proofs.Common.{arith, eqb-true}
 use Rattle.std.proofs.lemmas.Bool.{lt-leb}

@@ -1,15 +1,15 @@
 -- What is written of the Basic set, read again.
-use Rattle.std.specs.Prelude.{ℕ, ◌+◌, ◌-◌, ◌*◌, ◌/◌, ◌%◌, ◌^◌, ◌≤◌, ◌<◌, min, ◌≡◌, List, [], ◌∷◌, ◌++◌, Bool, true, false, cond, length, get_or}
+use Rattle.std.specs.Prelude.{ℕ, ◌+◌, ◌-◌, ◌*◌, ◌%◌, ◌^◌, ◌≤◌, ◌<◌, ◌≡◌, List, [], ◌∷◌, ◌++◌, false, length, get_or}
 use Rattle.std.proofs.Math.Path.{refl, ap, sym}
 use Rattle.std.proofs.Common.{ap₂, ◌∙◌, append_assoc, arith, lit<, le-ltb}
 use Rattle.std.proofs.Math.ListN.{length-append}
 use Rattle.base_facts.specs.Facts.{padded_of}
 use Rattle.base_facts.specs.Numbers.{agility}
 use Rattle.base_octets.specs.Number.{be_at, be_of}
-use Rattle.base_mi.specs.Mi.{mi_at, mi_octets}
+use Rattle.base_mi.specs.Mi.{mi_octets}
 use Rattle.base_octets.proofs.Laws.{length-be_of}
 use Rattle.base_mi.proofs.Laws.{length-mi}
-use Rattle.base_octets.proofs.Fields.{Stands, first, second, moved, octet-stands, number-stands}
+use Rattle.base_octets.proofs.Fields.{Stands, first, second, number-stands}
 use Rattle.base_mi.proofs.Laws.{mi-stands}
 use Rattle.base_packed.specs.Basic.{flags_of, octet_of}
 use Rattle.base_packed.specs.declared.basic.Flags.{Flags}

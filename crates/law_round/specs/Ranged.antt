@@ -1,5 +1,5 @@
 -- A frame's value in range, and what reading it should give.
-use Rattle.std.specs.Prelude.{ℕ, ◌+◌, ◌-◌, ◌*◌, ◌^◌, ◌≤◌, ◌<◌, ◌≡◌, List, [], ◌∷◌, Bool, true, false, not, length, eqb}
+use Rattle.std.specs.Prelude.{ℕ, ◌+◌, ◌*◌, ◌^◌, ◌≤◌, ◌<◌, ◌≡◌, List, [], ◌∷◌, Bool, true, false, not, length, eqb}
 use Rattle.base_facts.specs.Facts.{padded_of}
 use Rattle.base_mi.specs.Entry.{entries_of}
 use Rattle.base_mi.specs.declared.entry.Entry.{Entry}
@@ -12,7 +12,7 @@ use Rattle.frame_places.specs.declared.Spot.{Spot}
 use Rattle.frame_places.specs.declared.Places.{Places}
 use Rattle.frame_sets.specs.declared.kinds.KeyUse.{KeyUse}
 use Rattle.frame_sets.specs.declared.kinds.SakHeader.{SakHeader}
-use Rattle.frame_writer.specs.Frame.{list_set, use_part, body_octets}
+use Rattle.frame_writer.specs.Frame.{list_set, use_part}
 use Rattle.frame_writer.specs.declared.Sender.{Sender}
 use Rattle.frame_writer.specs.declared.Sak.{Sak}
 use Rattle.frame_writer.specs.declared.Mkpdu.{Mkpdu}

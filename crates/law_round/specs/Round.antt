@@ -1,7 +1,7 @@
 -- Reading any frame that the writer writes passes facts 2 to 5, walks to the end, and gives back every field and every list entry.
-use Rattle.std.specs.Prelude.{ℕ, ◌+◌, ◌-◌, ◌*◌, ◌/◌, ◌%◌, ◌^◌, ◌≤◌, ◌<◌, min, ◌≡◌, Bool, true, false, cond, not, eqb}
+use Rattle.std.specs.Prelude.{ℕ, ◌+◌, ◌-◌, ◌*◌, ◌/◌, ◌%◌, ◌≤◌, ◌<◌, ◌≡◌, Bool, true, false, cond, not, eqb}
 use Rattle.std.proofs.Math.Path.{refl}
-use Rattle.std.proofs.Common.{ap, ap₂, sym, ◌∙◌, true≢false, arith, lit<, eq-eqb, ne_eqb, eqb-true}
+use Rattle.std.proofs.Common.{ap, sym, ◌∙◌, true≢false, arith, lit<, eq-eqb, ne_eqb, eqb-true}
 use mathlib.Core.List.{List, [], ◌∷◌, ◌++◌, append_assoc}
 use Rattle.std.proofs.Math.ListN.{length, replicate, length-append}
 use Rattle.base_facts.specs.Facts.{padded_of}
@@ -18,7 +18,7 @@ use Rattle.frame.specs.Ours.{same_at, fact6, fact7}
 use Rattle.frame.specs.declared.BasicRead.TheVariants.{Read}
 use Rattle.frame_sets.specs.Kinds.{sak_use_at, sak_at}
 use Rattle.frame_places.specs.Once.{absent_spot, no_places, holds, places_with}
-use Rattle.frame_rules.specs.Rules.{is_list, allowed, unnumbered}
+use Rattle.frame_rules.specs.Rules.{is_list, unnumbered}
 use Rattle.frame_places.specs.declared.Spot.{Spot}
 use Rattle.frame_places.specs.declared.Places.{Places}
 use Rattle.frame_walk.specs.List.{entries_from, list_at}
@@ -27,7 +27,7 @@ use Rattle.frame_walk.specs.declared.Walked.TheVariants.{End}
 use Rattle.frame_walk.proofs.Laws.{walk_end}
 use Rattle.frame_writer.specs.Frame.{header_octets, ckn_of, ckn_octets, fixed_octets, basic_octets, set_header, list_octets, list_set, use_flags, use_octets, use_set, use_part, sak_set, sak_part, body_octets, frame_of}
 use Rattle.frame_writer.specs.declared.Mkpdu.{Mkpdu}
-use Rattle.frame_writer.proofs.Laws.{length-header, length-fixed, length-basic, length-ckn_of, length-list, length-list_set, length-key, length-body, length-frame, entries_of-le, body-le, body-four}
+use Rattle.frame_writer.proofs.Laws.{length-header, length-fixed, length-basic, length-ckn_of, length-list, length-key, length-body, length-frame, entries_of-le, body-le, body-four}
 use Rattle.law_round.specs.Ranged.{Ranged, basic_written, live_place, potential_place, use_place, sak_place, spot_if, list_spot, places_written, sak_written, GoodEntries}
 use Rattle.law_round.specs.Basic.{begun, basic-read}
 use Rattle.law_round.specs.Sets.{walk-part, body_at, entries-stand, use-stands, kn-stands, wrapped-stands, sak-stands}

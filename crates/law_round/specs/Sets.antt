@@ -1,13 +1,13 @@
 -- A set that stands in a frame: its header, the walk over it, and what it says, read again.
-use Rattle.std.specs.Prelude.{ℕ, suc, ◌+◌, ◌-◌, ◌*◌, ◌/◌, ◌%◌, ◌^◌, ◌≤◌, ◌<◌, ◌≡◌, refl, List, [], ◌∷◌, ◌++◌, Bool, true, false, cond, not, ◌||◌, length, get_or, eqb, ltb}
+use Rattle.std.specs.Prelude.{ℕ, ◌+◌, ◌-◌, ◌*◌, ◌/◌, ◌%◌, ◌≤◌, ◌<◌, ◌≡◌, refl, List, [], ◌∷◌, ◌++◌, Bool, true, false, cond, length, get_or}
 use Rattle.std.proofs.Math.Path.{ap, ap₂}
-use Rattle.std.proofs.Common.{sym, ◌∙◌, add-zero, length-append, lit<}
+use Rattle.std.proofs.Common.{sym, ◌∙◌, add-zero, length-append}
 use native.Mathlib.Omega.{arith}
 use borrow.Author.Tests.{le-ltb, le-leb, ne_eqb}
 use Rattle.base_facts.specs.Facts.{padded_of}
 use Rattle.base_octets.specs.Number.{be_at, be_of}
-use Rattle.base_mi.specs.Mi.{mi_at, mi_octets}
-use Rattle.base_mi.specs.Entry.{entry_at, entry_octets}
+use Rattle.base_mi.specs.Mi.{mi_octets}
+use Rattle.base_mi.specs.Entry.{entry_octets}
 use Rattle.base_mi.specs.declared.entry.Entry.{Entry}
 use Rattle.base_octets.proofs.Laws.{length-be_of}
 use Rattle.base_mi.proofs.Laws.{length-mi, length-entry}
@@ -15,7 +15,6 @@ use Rattle.base_octets.proofs.Fields.{Stands, first, second, moved, octet-stands
 use Rattle.base_mi.proofs.Laws.{mi-stands, entry-stands}
 use Rattle.base_packed.specs.Used.{used_of, used_octet}
 use Rattle.base_packed.specs.Sak.{sak_flags_of, sak_octet}
-use Rattle.base_packed.specs.declared.used.KeyFlags.{KeyFlags}
 use Rattle.base_packed.specs.declared.used.Used.{Used}
 use Rattle.base_packed.specs.declared.sak.SakFlags.{SakFlags}
 use Rattle.base_packed.proofs.Laws.{used-round, sak-round}

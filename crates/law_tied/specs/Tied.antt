@@ -43,7 +43,7 @@ module _ {n : ℕ} (ps : List (ParamKind n)) (r : ResultKind n) (Says : Out n ps
     Answers = (κs : Lfts n) (a : Dens κs ps) (z : (res_t r κs).Denot) (e : AtExit (ended_of n ps r) κs) → Says κs a z e → z ≡ made κs a
 
 pub receive : Plays call_receive.receive.Kinds.ps call_receive.receive.Kinds.r call_receive.receive.Reads.Learnt
-    (λ κs (p, (time, (verdict, (frame, _)))). (p, receives time verdict (frame .now)))
+    (λ κs (p, (time, (verdict, (frame, _)))). (p, receives time verdict frame.now))
     (λ κs a z e. (z.participant, to_receive z.answer))
 receive κs a z e h = ap (λ r. (r.participant, to_receive r.answer)) h
 
@@ -91,16 +91,16 @@ pub create : Answers call_creation.create.Kinds.ps call_creation.create.Kinds.r 
 unfolding created
 create κs a z e h = h
 
-pub read-basic : Answers frame.read_basic.Kinds.ps frame.read_basic.Kinds.r frame.read_basic.Reads.Learnt (λ κs (frame, _). basic_of (frame .now))
+pub read-basic : Answers frame.read_basic.Kinds.ps frame.read_basic.Kinds.r frame.read_basic.Reads.Learnt (λ κs (frame, _). basic_of frame.now)
 read-basic κs a z e h = h
 
-pub walk : Answers frame_walk.walk.Kinds.ps frame_walk.walk.Kinds.r frame_walk.walk.Reads.Learnt (λ κs (frame, (at, (stop, _))). walk_of (frame .now) at stop)
+pub walk : Answers frame_walk.walk.Kinds.ps frame_walk.walk.Kinds.r frame_walk.walk.Reads.Learnt (λ κs (frame, (at, (stop, _))). walk_of frame.now at stop)
 walk κs a z e h = h
 
-pub read : Answers image_reading.read.Kinds.ps image_reading.read.Kinds.r image_reading.read.Reads.Learnt (λ κs (image, _). read_of (image .now))
+pub read : Answers image_reading.read.Kinds.ps image_reading.read.Kinds.r image_reading.read.Reads.Learnt (λ κs (image, _). read_of image.now)
 read κs a z e h = h
 
-pub show : Answers page_shown.show.Kinds.ps page_shown.show.Kinds.r page_shown.show.Reads.Learnt (λ κs (image, _). shown_of (image .now))
+pub show : Answers page_shown.show.Kinds.ps page_shown.show.Kinds.r page_shown.show.Reads.Learnt (λ κs (image, _). shown_of image.now)
 show κs a z e h = h
 
 -- The questions, of the participant that `asks` shows; `Asked` of law_history says what they are of one that calls reached.
@@ -116,8 +116,8 @@ fresh-due κs a z e h = h
 pub hello-due : Answers call_questions.hello_due.Kinds.ps call_questions.hello_due.Kinds.r call_questions.hello_due.Reads.Learnt (λ κs (p, _). hello_due p)
 hello-due κs a z e h = h
 
-pub is_live : Answers call_questions.is_live.Kinds.ps call_questions.is_live.Kinds.r call_questions.is_live.Reads.Learnt (λ κs (p, (m, _)). asked_live p m)
-is_live κs a z e h = h
+pub is-live : Answers call_questions.is_live.Kinds.ps call_questions.is_live.Kinds.r call_questions.is_live.Reads.Learnt (λ κs (p, (m, _)). asked_live p m)
+is-live κs a z e h = h
 
 pub is-potential : Answers call_questions.is_potential.Kinds.ps call_questions.is_potential.Kinds.r call_questions.is_potential.Reads.Learnt (λ κs (p, (m, _)). asked_potential p m)
 is-potential κs a z e h = h

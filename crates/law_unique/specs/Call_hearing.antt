@@ -1,21 +1,22 @@
 -- The public functions of `call_hearing`. Written by tools/unique.
 use Rattle.std.specs.Prelude.{refl}
 use Rattle.call_hearing.proofs as call_hearing
+use Rattle.call_hearing.specs.contracts as contracts
 use Rattle.law_unique.specs.Law.{AsksNothing, OneAnswer, same}
 
-pub call-hearing·keys·take-sak·asks-nothing : AsksNothing call_hearing.keys.take_sak.signature call_hearing.keys.take_sak.Reads.requires
+pub call-hearing·keys·take-sak·asks-nothing : AsksNothing contracts.keys.take_sak.signature call_hearing.keys.take_sak.Reads.requires
 call-hearing·keys·take-sak·asks-nothing κs a w = refl
 
 pub call-hearing·keys·take-sak : OneAnswer call_hearing.keys.take_sak.Kinds.ps call_hearing.keys.take_sak.Kinds.r call_hearing.keys.take_sak.Reads.Learnt
 call-hearing·keys·take-sak κs a z z' e e' h h' = same h h'
 
-pub call-hearing·proof·recent·asks-nothing : AsksNothing call_hearing.proof.recent.signature call_hearing.proof.recent.Reads.requires
+pub call-hearing·proof·recent·asks-nothing : AsksNothing contracts.proof.recent.signature call_hearing.proof.recent.Reads.requires
 call-hearing·proof·recent·asks-nothing κs a w = refl
 
 pub call-hearing·proof·recent : OneAnswer call_hearing.proof.recent.Kinds.ps call_hearing.proof.recent.Kinds.r call_hearing.proof.recent.Reads.Learnt
 call-hearing·proof·recent κs a z z' e e' h h' = same h h'
 
-pub call-hearing·proof·proves·asks-nothing : AsksNothing call_hearing.proof.proves.signature call_hearing.proof.proves.Reads.requires
+pub call-hearing·proof·proves·asks-nothing : AsksNothing contracts.proof.proves.signature call_hearing.proof.proves.Reads.requires
 call-hearing·proof·proves·asks-nothing κs a w = refl
 
 pub call-hearing·proof·proves : OneAnswer call_hearing.proof.proves.Kinds.ps call_hearing.proof.proves.Kinds.r call_hearing.proof.proves.Reads.Learnt

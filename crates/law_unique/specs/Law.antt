@@ -26,8 +26,8 @@ module _ (S : Signature) (requires : (κs : Lfts S.lifetimes) → ArgsD S κs �
   abbrev pub AsksNothing : Type 2
   AsksNothing = (κs : Lfts S.lifetimes) (a : ArgsD S κs) (w : World) → requires κs a tt w ≡ emp w.𝓤
 
--- A function that takes or gives a held reference is proved by a walk of its own, and its callers learn no `Reads` of it. Of its
--- `ensures` itself: whatever grants it of two answers grants that what is seen of them is the same.
+-- The same of an `ensures` itself, in every model of the logic: whatever grants it of two answers grants that what is seen of them is
+-- the same. It is cited of the functions that take or give a held reference.
 module _ (T : Ended) (ensures : (κs : Lfts T.signature.lifetimes) → ArgsD T.signature κs → Unit {0} → ResD T.signature κs → AtExit T κs → (w : World) → Pr w) where
   module _ {A : Type 0} (see : (κs : Lfts T.signature.lifetimes) → ResD T.signature κs → AtExit T κs → A) where
     abbrev pub GrantsOne : Type 2

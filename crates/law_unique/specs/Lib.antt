@@ -1,5 +1,5 @@
 pub mod Law
-pub mod Walked
+pub mod Held
 pub mod Base_facts
 pub mod Base_octets
 pub mod Base_runs

@@ -1,15 +1,16 @@
 -- The public functions of `table`. Written by tools/unique.
 use Rattle.std.specs.Prelude.{refl}
 use Rattle.table.proofs as table
+use Rattle.table.specs.contracts as contracts
 use Rattle.law_unique.specs.Law.{AsksNothing, OneAnswer, same}
 
-pub table·blank·asks-nothing : AsksNothing table.blank.signature table.blank.Reads.requires
+pub table·blank·asks-nothing : AsksNothing contracts.blank.signature table.blank.Reads.requires
 table·blank·asks-nothing κs a w = refl
 
 pub table·blank : OneAnswer table.blank.Kinds.ps table.blank.Kinds.r table.blank.Reads.Learnt
 table·blank κs a z z' e e' h h' = same h h'
 
-pub table·empty·asks-nothing : AsksNothing table.empty.signature table.empty.Reads.requires
+pub table·empty·asks-nothing : AsksNothing contracts.empty.signature table.empty.Reads.requires
 table·empty·asks-nothing κs a w = refl
 
 pub table·empty : OneAnswer table.empty.Kinds.ps table.empty.Kinds.r table.empty.Reads.Learnt

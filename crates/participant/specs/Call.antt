@@ -1,5 +1,5 @@
 -- "Numbers of refusal": a call is its facts in their order, and what the participant becomes where none holds.
-use Rattle.std.specs.Prelude.{ℕ, Bool, cond, List, [], ◌∷◌, ltb, eqb}
+use Rattle.std.specs.Prelude.{ℕ, Bool, cond, List, ltb, eqb}
 use Rattle.base_facts.specs.Facts.{first_of}
 use Rattle.table_expiry.specs.Expiry.{expired}
 use Rattle.participant.specs.declared.Participant.{Participant}

@@ -4,7 +4,7 @@ use mathlib.Core.Path.{◌≡◌, refl, ap, sym, ◌∙◌}
 use mathlib.Core.Bool.{true, false, not}
 use mathlib.Core.List.{List, [], ◌∷◌, ◌++◌, append_assoc, append-nil}
 use native.Mathlib.Omega.{arith}
-use lib.ListN.{length, take, drop, replicate, length-take, take-append-drop, replicate-append-replicate}
+use lib.ListN.{length, drop, replicate, length-take, take-append-drop, replicate-append-replicate}
 use lib.Seq.{take_at, drop_at}
 use borrow.Author.Tests.{ltb-false, le-ltb, lt-ltb, not-true}
 use Rattle.table.specs.declared.Peer.{Peer}
@@ -13,7 +13,7 @@ use Rattle.law_lists.specs.Lists.{those, pad}
 use Rattle.table.specs.Table.{room, blank_peer, entries, table_of, empty_table}
 use Rattle.table_expiry.specs.Expiry.{life_time, fresh_at, fresh_peer, lapsed, unproven, aged_peer, aged_list, still_peer, steady_in, refilled, expired}
 use Rattle.table_expiry.specs.Kept.{Tidy}
-use Rattle.law_lists.specs.Laws.{by_cases, clash, first-of, second-of, length-those, length-of-map, length-pad, take-pad}
+use Rattle.law_lists.specs.Laws.{by_cases, first-of, second-of, length-those, length-of-map, length-pad, take-pad}
 
 -- ---- lists
 

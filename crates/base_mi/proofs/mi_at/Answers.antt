@@ -4,7 +4,6 @@ use lib.ListN.{length}
 use Rattle.base_mi.specs.Mi.{mi_at}
 use Rattle.base_octets.proofs.Laws.{be_at-out}
 use native.Mathlib.Omega.{arith}
-use borrow.Author.Rules.{rules}
 use Rattle.base_mi.proofs.mi_at.Goals as goal
 
 pub returns-then-s-at : goal.returns-then-s-at

@@ -2,7 +2,6 @@ use mathlib.Core.Path.{sym}
 use Rattle.base_octets.specs.Number.{be_of}
 use Rattle.base_mi.specs.Mi.{mi_octets}
 use Rattle.base_octets.proofs.Laws.{sets-out, sets_then, length-be_of}
-use borrow.Author.Rules.{rules}
 use Rattle.base_mi.proofs.put_mi.Goals as goal
 
 pub returns-then-out-at : goal.returns-then-out-at

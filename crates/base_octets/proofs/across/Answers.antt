@@ -1,8 +1,5 @@
-use borrow.Author.Rules.{rules}
 use native.Mathlib.Omega.{arith}
-use Prim.Native.Nat.{◌≤◌, ◌-◌}
-use mathlib.Core.Path.{◌≡◌, sym, ap, ◌∙◌}
-use Rattle.base_octets.specs.Number.{be_at}
+use mathlib.Core.Path.{sym}
 use Rattle.base_octets.proofs.Laws.{be_at-zero, be_at-next, be-turn, be_at-out}
 use Rattle.base_octets.proofs.across.Goals as goal
 

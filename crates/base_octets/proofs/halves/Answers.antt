@@ -1,7 +1,6 @@
 use Prim.Native.Nat.{◌+◌}
 use Rattle.base_octets.proofs.Laws.{be_at-lt, be_at-halves}
 use native.Mathlib.Omega.{arith}
-use borrow.Author.Rules.{rules}
 use Rattle.base_octets.proofs.halves.Goals as goal
 
 pub overflow_mul-result : goal.overflow_mul-result

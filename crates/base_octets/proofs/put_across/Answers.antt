@@ -1,8 +1,7 @@
 use mathlib.Core.Path.{sym}
 use Rattle.base_octets.specs.Number.{be_of}
 use Rattle.base_octets.proofs.Laws.{sets-out}
-use Rattle.base_octets.proofs.Putting.{Putting, putting-next, putting-end}
-use borrow.Author.Rules.{rules}
+use Rattle.base_octets.proofs.Putting.{putting-next, putting-end}
 use Rattle.base_octets.proofs.put_across.Goals as goal
 
 pub returns-then-out-at : goal.returns-then-out-at

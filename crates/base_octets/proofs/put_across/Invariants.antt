@@ -1,8 +1,4 @@
-use mathlib.Core.Path.{sym}
-use Rattle.base_octets.specs.Number.{be_of}
-use Rattle.base_octets.proofs.Laws.{sets-out}
-use Rattle.base_octets.proofs.Putting.{Putting, putting-next, putting-end}
-use borrow.Author.Rules.{rules}
+use Rattle.base_octets.proofs.Putting.{Putting}
 use Rattle.base_octets.proofs.put_across.Given as goal
 
 abbrev pub invariant-loop-i : goal.invariant-loop-i

@@ -1,6 +1,5 @@
 use mathlib.Core.Path.{refl}
-use Rattle.base_octets.proofs.Putting.{Putting, putting-next, putting-end}
-use borrow.Author.Rules.{rules}
+use Rattle.base_octets.proofs.Putting.{putting-next, putting-end}
 use Rattle.base_octets.proofs.put_within.Goals as goal
 
 pub loop-i-preserved : goal.loop-i-preserved

@@ -1,6 +1,4 @@
-use mathlib.Core.Path.{refl}
-use Rattle.base_octets.proofs.Putting.{Putting, putting-next, putting-end}
-use borrow.Author.Rules.{rules}
+use Rattle.base_octets.proofs.Putting.{Putting}
 use Rattle.base_octets.proofs.put_within.Given as goal
 
 abbrev pub invariant-loop-i : goal.invariant-loop-i

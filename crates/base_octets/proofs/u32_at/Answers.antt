@@ -1,6 +1,5 @@
 use Rattle.base_octets.proofs.Laws.{be_at-lt}
 use native.Mathlib.Omega.{arith}
-use borrow.Author.Rules.{rules}
 use Rattle.base_octets.proofs.u32_at.Goals as goal
 
 pub overflow_cast-result : goal.overflow_cast-result

@@ -1,9 +1,6 @@
 use Prim.Native.Nat.{◌≤◌, ◌-◌}
-use mathlib.Core.Path.{◌≡◌, sym, ap, ◌∙◌}
+use mathlib.Core.Path.{◌≡◌}
 use Rattle.base_octets.specs.Number.{be_at}
-use Rattle.base_octets.proofs.Laws.{be_at-zero, be_at-next, be-turn}
-use borrow.Author.Rules.{rules}
-use native.Mathlib.Omega.{arith}
 use Rattle.base_octets.proofs.within.Given as goal
 
 abbrev pub invariant-loop-i : goal.invariant-loop-i

@@ -4,7 +4,6 @@ use lib.ListN.{length}
 use borrow.Author.Tests.{lt-ltb, le-ltb}
 use Rattle.base_octets.specs.Run.{part_of}
 use native.Mathlib.Omega.{arith}
-use borrow.Author.Rules.{rules}
 use Rattle.base_runs.proofs.part.Goals as goal
 
 pub returns-then-s-at : goal.returns-then-s-at

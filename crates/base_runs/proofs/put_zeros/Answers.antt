@@ -1,8 +1,5 @@
-use Prim.Native.Nat.{ℕ, ◌≤◌, ◌+◌, ◌-◌}
-use mathlib.Core.Path.{◌≡◌, refl, sym, ap, ◌∙◌}
-use native.Mathlib.Nat.{add-zero, sub-zero}
-use lib.ListN.{length, replicate}
-use lib.Seq.{sets}
+use mathlib.Core.Path.{sym, ◌∙◌}
+use lib.ListN.{replicate}
 use Rattle.base_octets.proofs.Laws as laws
 use borrow.Author.Rules.{rules}
 use native.Mathlib.Omega.{arith}

@@ -1,11 +1,7 @@
-use Prim.Native.Nat.{ℕ, ◌≤◌, ◌+◌, ◌-◌}
-use mathlib.Core.Path.{◌≡◌, refl, sym, ap, ◌∙◌}
-use native.Mathlib.Nat.{add-zero, sub-zero}
+use Prim.Native.Nat.{◌≤◌, ◌+◌, ◌-◌}
+use mathlib.Core.Path.{◌≡◌}
 use lib.ListN.{length, replicate}
 use lib.Seq.{sets}
-use Rattle.base_octets.proofs.Laws as laws
-use borrow.Author.Rules.{rules}
-use native.Mathlib.Omega.{arith}
 use Rattle.base_runs.proofs.put_zeros.Given as goal
 
 abbrev pub invariant-loop-i : goal.invariant-loop-i

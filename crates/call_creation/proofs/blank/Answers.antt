@@ -1,5 +1,4 @@
 use Rattle.call_creation.specs.Create.{empty_participant, fresh}
-use borrow.Author.Rules.{rules}
 use Rattle.call_creation.proofs.blank.Goals as goal
 
 pub returns : goal.returns

@@ -1,7 +1,6 @@
 use mathlib.Core.Path.{sym, ◌∙◌}
 use Rattle.base_facts.proofs.Laws.{check-failed, check-passed}
 use Rattle.call_creation.specs.Create.{created_of, empty_participant, fresh}
-use borrow.Author.Rules.{rules}
 use Rattle.call_creation.proofs.create.Goals as goal
 
 pub returns-in_default : goal.returns-in_default

@@ -10,7 +10,6 @@ use borrow.Author.Tests.{not-true, not-false}
 use Rattle.call_distribute.specs.Distribute.{distributed_of}
 use Rattle.participant.specs.Call.{aged_to}
 use native.Mathlib.Omega.{arith}
-use borrow.Author.Rules.{rules}
 use Rattle.call_distribute.proofs.distribute.Goals as goal
 
 pub returns-in_default : goal.returns-in_default

@@ -1,5 +1,4 @@
 use Rattle.call_distribute.specs.Distribute.{fresh_key}
-use borrow.Author.Rules.{rules}
 use Rattle.call_distribute.proofs.fresh_key.Goals as goal
 
 pub returns : goal.returns

@@ -1,6 +1,5 @@
 use Rattle.call_distribute.specs.Distribute.{next_an}
 use native.Mathlib.Omega.{arith}
-use borrow.Author.Rules.{rules}
 use Rattle.call_distribute.proofs.next_an.Goals as goal
 
 pub returns-then-latest : goal.returns-then-latest

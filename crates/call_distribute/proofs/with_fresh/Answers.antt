@@ -1,6 +1,5 @@
 use Rattle.call_distribute.specs.Distribute.{with_fresh}
 use Rattle.participant.specs.Keys.{with_key}
-use borrow.Author.Rules.{rules}
 use Rattle.call_distribute.proofs.with_fresh.Goals as goal
 
 pub returns : goal.returns

@@ -1,16 +1,14 @@
-use native.Mathlib.Omega.{arith}
 use mathlib.Core.Bool.{not}
 use mathlib.Core.List.{[], ◌∷◌}
-use lib.ListN.{length, take, length-take}
+use lib.ListN.{take}
 use lib.Dec.{ltb}
 use borrow.Author.Tests.{eq-eqb, ne_eqb}
-use borrow.Author.Rules.{rules}
 use Rattle.frame.specs.Ours.{fact6, fact7}
 use Rattle.frame_walk.specs.Walk.{walk_of}
 use Rattle.call_judge.specs.Judge.{number_of, own_ckn, basic_in, walk_in, is_bad, frame_facts, judged_of}
 use Rattle.call_judge.specs.declared.Judged.TheVariants.{Refused}
 use Rattle.call_judge.proofs.Laws as laws
-use mathlib.Core.Path.{◌≡◌, refl, sym, ap, ◌∙◌}
+use mathlib.Core.Path.{sym, ap, ◌∙◌}
 use Rattle.base_facts.proofs.Laws.{check-failed, check-passed}
 use Rattle.call_judge.proofs.judge.Goals as goal
 

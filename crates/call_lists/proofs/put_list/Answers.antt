@@ -1,15 +1,11 @@
-use Prim.Native.Nat.{ℕ, ◌+◌, ◌-◌, ◌*◌, ◌≤◌, ◌<◌, min}
+use Prim.Native.Nat.{ℕ, ◌+◌, ◌*◌, ◌<◌, min}
 use mathlib.Core.Path.{◌≡◌, ap, refl, sym, ◌∙◌}
-use mathlib.Core.Bool.{Bool}
-use mathlib.Core.List.{List, map}
-use mathlib.Core.Logic.{⊎_elim}
+use mathlib.Core.List.{map}
 use native.Mathlib.Omega.{arith}
-use lib.ListN.{length, take}
+use lib.ListN.{length}
 use lib.Seq.{sets}
 use borrow.Author.Rules.{rules}
 use Rattle.law_lists.specs.Lists.{those}
-use Rattle.base_mi.specs.declared.entry.Entry.{Entry}
-use Rattle.table.specs.declared.Peer.{Peer}
 use Rattle.table.specs.Table.{entries}
 use Rattle.table_counts.specs.Counts.{is_of, entry_of}
 use Rattle.frame_writer.specs.Frame.{set_header, list_octets}
@@ -28,9 +24,12 @@ loop-i-preserved c =
     let old = c.args.t.peers in
     let f = is_of c.args.live in
     let h : c.loop-i.i < length old = omega (arith, (let sized : length c.args.t.peers ≡ 16 = search (rules, unmapped) in sized), c.at_most-n.ensures) in
-    elim c.if-is_of.branch [ then-is_of w ↦     let m = entry_kept f old c.loop-i.i _ c.args.out.now c.loop-i.out (c.args.at + 4) c.loop-i.k h c.loop-i.invariant.3 c.loop-i.invariant.4 _ _ (sym c.is_of.ensures ∙ w.if-is_of.true) w.entry_of.ensures w.put_entry.ensures in
-    (omega arith, omega arith, search rules, w.k-is ∙ m.0, w.out-is ∙ m.1) | else-is_of w ↦     let m = entry_gone f old c.loop-i.i _ c.args.out.now c.loop-i.out (c.args.at + 4) c.loop-i.k h c.loop-i.invariant.3 c.loop-i.invariant.4 (sym c.is_of.ensures ∙ w.if-is_of.false) in
-    (omega arith, omega arith, search rules, w.k-is ∙ m.0, w.out-is ∙ m.1) ]
+    elim c.if-is_of.branch [
+      | then-is_of w ↦ let m = entry_kept f old c.loop-i.i _ c.args.out.now c.loop-i.out (c.args.at + 4) c.loop-i.k h c.loop-i.invariant.3 c.loop-i.invariant.4 _ _ (sym c.is_of.ensures ∙ w.if-is_of.true) w.entry_of.ensures w.put_entry.ensures in
+          (omega arith, omega arith, search rules, w.k-is ∙ m.0, w.out-is ∙ m.1)
+      | else-is_of w ↦ let m = entry_gone f old c.loop-i.i _ c.args.out.now c.loop-i.out (c.args.at + 4) c.loop-i.k h c.loop-i.invariant.3 c.loop-i.invariant.4 (sym c.is_of.ensures ∙ w.if-is_of.false) in
+          (omega arith, omega arith, search rules, w.k-is ∙ m.0, w.out-is ∙ m.1)
+    ]
 
 pub returns-then-k-eq0 : goal.returns-then-k-eq0
 unfolding peer_list

@@ -1,6 +1,5 @@
 use mathlib.Core.Path.{sym, ◌∙◌}
 use Rattle.call_new_mi.specs.Renew.{in_use}
-use borrow.Author.Rules.{rules}
 use Rattle.call_new_mi.proofs.is_in_use.Goals as goal
 
 pub returns-then-same_mi : goal.returns-then-same_mi

@@ -2,7 +2,6 @@ use Rattle.participant.specs.Call.{fact1}
 use mathlib.Core.Path.{sym, ◌∙◌}
 use Rattle.base_facts.proofs.Laws.{check-failed, check-passed}
 use Rattle.call_new_mi.specs.Renew.{new_mi_of}
-use borrow.Author.Rules.{rules}
 use Rattle.call_new_mi.proofs.new_mi.Goals as goal
 
 pub returns-in_default : goal.returns-in_default

@@ -1,5 +1,4 @@
 use Rattle.call_new_mi.specs.Renew.{renewed}
-use borrow.Author.Rules.{rules}
 use Rattle.call_new_mi.proofs.renew.Goals as goal
 
 pub returns : goal.returns

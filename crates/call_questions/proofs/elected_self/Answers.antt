@@ -1,7 +1,6 @@
 use mathlib.Core.Path.{ap, ◌∙◌}
 use Rattle.call_questions.specs.Ask.{asked_elected}
 use Rattle.call_standing.specs.Standing.{elected_self}
-use borrow.Author.Rules.{rules}
 use Rattle.call_questions.proofs.elected_self.Goals as goal
 
 pub returns : goal.returns

@@ -1,7 +1,6 @@
 use mathlib.Core.Path.{ap, ◌∙◌}
 use Rattle.call_questions.specs.Ask.{asked_fresh}
 use Rattle.call_standing.specs.Standing.{fresh_due}
-use borrow.Author.Rules.{rules}
 use Rattle.call_questions.proofs.fresh_due.Goals as goal
 
 pub returns : goal.returns

@@ -2,7 +2,6 @@ use mathlib.Core.Path.{ap, ◌∙◌}
 use Rattle.participant.specs.declared.Participant.{Participant}
 use Rattle.table_lookup.specs.Look.{held_in, live_for}
 use Rattle.call_questions.specs.Ask.{asked_live}
-use borrow.Author.Rules.{rules}
 use Rattle.call_questions.proofs.is_live.Goals as goal
 
 pub returns : goal.returns

@@ -2,7 +2,6 @@ use mathlib.Core.Path.{ap, ◌∙◌}
 use Rattle.participant.specs.declared.Participant.{Participant}
 use Rattle.table_counts.specs.Counts.{live_count}
 use Rattle.call_questions.specs.Ask.{asked_lives}
-use borrow.Author.Rules.{rules}
 use Rattle.call_questions.proofs.live_count.Goals as goal
 
 pub returns : goal.returns

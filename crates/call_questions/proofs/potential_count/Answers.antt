@@ -2,7 +2,6 @@ use mathlib.Core.Path.{ap, ◌∙◌}
 use Rattle.participant.specs.declared.Participant.{Participant}
 use Rattle.table_counts.specs.Counts.{potential_count}
 use Rattle.call_questions.specs.Ask.{asked_potentials}
-use borrow.Author.Rules.{rules}
 use Rattle.call_questions.proofs.potential_count.Goals as goal
 
 pub returns : goal.returns

@@ -1,7 +1,6 @@
 use mathlib.Core.Path.{ap, ◌∙◌}
 use Rattle.call_questions.specs.Ask.{asked_server}
 use Rattle.call_standing.specs.Standing.{server_of}
-use borrow.Author.Rules.{rules}
 use Rattle.call_questions.proofs.server.Goals as goal
 
 pub returns : goal.returns

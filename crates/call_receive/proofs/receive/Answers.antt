@@ -1,22 +1,19 @@
-use Prim.Native.Nat.{ℕ, ◌-◌, ◌≤◌, ◌<◌}
-use mathlib.Core.Path.{◌≡◌, refl, sym, ap, ap₂, ◌∙◌}
+use Prim.Native.Nat.{◌<◌}
+use mathlib.Core.Path.{◌≡◌, sym, ap, ap₂, ◌∙◌}
 use mathlib.Core.Bool.{Bool, true, false, not, ◌||◌}
-use mathlib.Core.Logic.{⊎_elim}
 use native.Mathlib.Omega.{arith}
-use lib.ListN.{get_or, set, take, drop, length, length-map}
-use borrow.Author.Tests.{eq-eqb}
+use lib.ListN.{get_or, set, length}
 use borrow.Author.Rules.{rules}
 use Rattle.base_facts.proofs.Laws.{check-failed, check-passed}
 use Rattle.table.specs.Table.{blank_peer, entries}
-use Rattle.table.specs.declared.Table.{Table}
 use Rattle.table_expiry.specs.Expiry.{steady_in, expired}
-use Rattle.table_expiry.proofs.Steady.{steady_so_far, steady-turn, steady-end}
-use Rattle.table_lookup.specs.Look.{seek, held_in, becomes_live}
+use Rattle.table_expiry.proofs.Steady.{steady-turn, steady-end}
+use Rattle.table_lookup.specs.Look.{held_in, becomes_live}
 use Rattle.table_enter.specs.Enter.{held_peer, updated}
 use Rattle.table_enter.specs.declared.Heard.{Heard}
 use Rattle.table_election.specs.Elect.{elected}
 use Rattle.table_election.specs.declared.Server.{Server}
-use Rattle.law_kept.specs.InPlace.{sought, first_below, sought-turn, sought-end}
+use Rattle.law_kept.specs.InPlace.{first_below, sought-turn, sought-end}
 use Rattle.participant.specs.Record.{set_clock, set_mark, set_table}
 use Rattle.participant.specs.declared.Participant.{Participant}
 use Rattle.call_standing.specs.Standing.{server_of}
@@ -67,8 +64,9 @@ agreed c =
     let few = c.at_most-n.ensures in
     let whole : length p.table.peers ≡ 16 = search rules in
     elim c.if-expires.branch [
-      then-expires w ↦ (w.t-is ∙ w.expire-t.ensures ∙ aged-table p time n few, w.held-is ∙ w.look-held.ensures ∙ ap (held_in m) (sym w.t-is))
-    | else-expires w ↦ (w.t-is ∙ still-table p time n whole few (steady c w.if-expires.false), w.held-is ∙ found-held c ∙ still-held p m n few ∙ ap (held_in m) (sym w.t-is)) ]
+      | then-expires w ↦ (w.t-is ∙ w.expire-t.ensures ∙ aged-table p time n few, w.held-is ∙ w.look-held.ensures ∙ ap (held_in m) (sym w.t-is))
+      | else-expires w ↦ (w.t-is ∙ still-table p time n whole few (steady c w.if-expires.false), w.held-is ∙ found-held c ∙ still-held p m n few ∙ ap (held_in m) (sym w.t-is))
+    ]
 
 -- facts 11 and 12 don't hold
 passed : (c : In-Passed-fail_if-2) → (◌≡◌ {A = Bool} c.stale.result false) × (◌≡◌ {A = Bool} c.no_room.result false)
@@ -103,9 +101,9 @@ settled : (c : After-either) (ta : c.if-expires.t ≡ expired c.args.time c.args
 settled c ta ha good stale full =
     good ∙ settled-good c.args.p c.args.time c.args.frame.now c.in-Good.b c.in-Good.w c.if-expires.t c.if-expires.held ta ha (sym c.stale.ensures ∙ stale) (sym c.no_room.ensures ∙ full)
 
-
 abbrev Kept : (c : After-either) → (c.if-expires.t ≡ expired c.args.time c.args.p.table) → (c.if-expires.held ≡ held_in c.in-Good.b.mi c.if-expires.t) → Participant
 Kept c ta ha = stored c.args.p c.args.time c.args.frame.now c.in-Good.b c.in-Good.w c.if-expires.t c.if-expires.held ta ha (proves_in c.args.frame.now c.in-Good.w c.args.p.mi c.args.p.mn)
+
 pub returns-in_default : goal.returns-in_default
 unfolding received_of
 returns-in_default c = let a = c.args in let b = laws.judged-bad a.p a.time a.verdict a.frame.now _ (sym c.judge-j.ensures ∙ c.in_default.is) in rw (b.0, b.1) (c.refused.ensures ∙ ap (refused_of a.p) (c.refusal.ensures ∙ ap refusal_of c.in_default.is))
@@ -115,7 +113,7 @@ unfolding received_of table_facts
 returns-in_default-fail_if c = let a = c.args in let g = laws.judged-good a.p a.time a.verdict a.frame.now _ _ (sym c.judge-j.ensures ∙ c.in-Good.is) in rw (g.0, ← c.same_mi.ensures, check-failed c.same_mi.result (sym c.fail_if.ensures ∙ c.in_default-fail_if.is)) c.refused-in_default-fail_if.ensures
 
 pub loop-i-preserved : goal.loop-i-preserved
-loop-i-preserved c = let l = c.loop-i in let peers = c.args.p.table.peers in let count = c.args.p.table.count in let n = c.at_most-n.result in let few = c.at_most-n.ensures in let lt = c.loop-i-test.true in (omega arith, rw c.first-at.ensures (first_below l.at n l.i c.in-Good.b.mi (get_or peers l.i blank_peer) l.invariant.1 lt), rw (c.either-expires.ensures, c.still_from.ensures, c.oldest-from.ensures) (steady-turn n peers count ((let sized : length c.args.p.table.peers ≡ 16 = search rules in sized)) few c.args.time l.expires l.i lt ∙ l.invariant.2), rw c.first-at.ensures (sought-turn n peers count ((let sized : length c.args.p.table.peers ≡ 16 = search rules in sized)) few c.in-Good.b.mi l.at l.i _ lt l.invariant.3))
+loop-i-preserved c = let l = c.loop-i in let peers = c.args.p.table.peers in let count = c.args.p.table.count in let n = c.at_most-n.result in let few = c.at_most-n.ensures in let lt = c.loop-i-test.true in (omega arith, rw c.first-at.ensures (first_below l.at n l.i c.in-Good.b.mi (get_or peers l.i blank_peer) l.invariant.1 lt), rw (c.either-expires.ensures, c.still_from.ensures, c.oldest-from.ensures) (steady-turn n peers count (let sized : length c.args.p.table.peers ≡ 16 = search rules in sized) few c.args.time l.expires l.i lt ∙ l.invariant.2), rw c.first-at.ensures (sought-turn n peers count (let sized : length c.args.p.table.peers ≡ 16 = search rules in sized) few c.in-Good.b.mi l.at l.i _ lt l.invariant.3))
 
 pub returns-in_default-fail_if-2 : goal.returns-in_default-fail_if-2
 returns-in_default-fail_if-2 c =
@@ -123,7 +121,7 @@ returns-in_default-fail_if-2 c =
     let g = agreed at.After-stale in
     c.refused-in_default-fail_if-2.ensures
     ∙ sym (good at.In-Passed ∙ settled-stale c.args.p c.args.time c.args.frame.now c.in-Good.b c.in-Good.w c.if-expires.t c.if-expires.held g.0 g.1
-        (sym c.stale.ensures ∙ check-failed c.stale.result (sym c.fail_if-2.ensures ∙ c.in_default-fail_if-2.is)))
+    (sym c.stale.ensures ∙ check-failed c.stale.result (sym c.fail_if-2.ensures ∙ c.in_default-fail_if-2.is)))
 
 pub returns-in_default-fail_if-3 : goal.returns-in_default-fail_if-3
 returns-in_default-fail_if-3 c =
@@ -131,8 +129,8 @@ returns-in_default-fail_if-3 c =
     let g = agreed at.After-stale in
     c.refused-in_default-fail_if-3.ensures
     ∙ sym (good at.In-Passed ∙ settled-full c.args.p c.args.time c.args.frame.now c.in-Good.b c.in-Good.w c.if-expires.t c.if-expires.held g.0 g.1
-        (sym c.stale.ensures ∙ check-passed c.stale.result (sym c.fail_if-2.ensures ∙ c.in-Passed-fail_if.is))
-        (sym c.no_room.ensures ∙ check-failed c.no_room.result (sym c.fail_if-3.ensures ∙ c.in_default-fail_if-3.is)))
+    (sym c.stale.ensures ∙ check-passed c.stale.result (sym c.fail_if-2.ensures ∙ c.in-Passed-fail_if.is))
+    (sym c.no_room.ensures ∙ check-failed c.no_room.result (sym c.fail_if-3.ensures ∙ c.in_default-fail_if-3.is)))
 
 pub offset_bounds-t-to : goal.offset_bounds-t-to
 offset_bounds-t-to c =

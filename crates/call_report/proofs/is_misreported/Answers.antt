@@ -1,6 +1,5 @@
 use mathlib.Core.Path.{sym, ◌∙◌}
 use Rattle.call_report.specs.Report.{misreported}
-use borrow.Author.Rules.{rules}
 use Rattle.call_report.proofs.is_misreported.Goals as goal
 
 pub returns-then-transmit : goal.returns-then-transmit

@@ -1,17 +1,13 @@
-use Prim.Native.Nat.{◌<◌}
 use mathlib.Core.Bool.{true, false}
 use mathlib.Core.Path.{◌≡◌, sym, ap, ◌∙◌}
 use lib.Dec.{eqb, ltb}
 use lib.ListN.{length}
-use borrow.Author.Tests.{eqb-false}
 use Rattle.base_facts.proofs.Laws.{check-failed, check-passed}
 use Rattle.base_octets.specs.Run.{written}
 use Rattle.frame_writer.specs.Frame.{frame_of}
 use Rattle.participant.specs.Call.{fact1, aged_to}
 use Rattle.call_send.specs.Send.{frame_at, send_facts, sent_at, sent_of, left_by}
 use Rattle.call_send.proofs.Laws.{wrote-refused, wrote-octets, counted, spoken}
-use native.Mathlib.Omega.{arith}
-use borrow.Author.Rules.{rules}
 use Rattle.call_send.proofs.send.Goals as goal
 
 pub returns-in_default : goal.returns-in_default

@@ -2,7 +2,6 @@ use mathlib.Core.Path.{sym, ◌∙◌}
 use mathlib.Core.Path.{ap}
 use Rattle.table_election.specs.Stand.{is_ours}
 use Rattle.call_standing.specs.Standing.{elected_self}
-use borrow.Author.Rules.{rules}
 use Rattle.call_standing.proofs.elected_self.Goals as goal
 
 pub returns-in-Nobody : goal.returns-in-Nobody

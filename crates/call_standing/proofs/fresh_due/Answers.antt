@@ -1,6 +1,5 @@
 use mathlib.Core.Path.{sym, ◌∙◌}
 use Rattle.call_standing.specs.Standing.{fresh_due}
-use borrow.Author.Rules.{rules}
 use Rattle.call_standing.proofs.fresh_due.Goals as goal
 
 pub returns-then-p : goal.returns-then-p

@@ -1,9 +1,6 @@
-use mathlib.Core.Bool.{not}
-use mathlib.Core.Path.{ap}
 use mathlib.Core.Path.{sym, ◌∙◌}
-use borrow.Author.Tests.{eq-eqb, ne_eqb, not-true, not-false}
+use borrow.Author.Tests.{eq-eqb, ne_eqb}
 use Rattle.call_standing.specs.Standing.{pause_over}
-use borrow.Author.Rules.{rules}
 use Rattle.call_standing.proofs.pause_over.Goals as goal
 
 pub returns-then-p-eq0 : goal.returns-then-p-eq0

@@ -1,6 +1,5 @@
 use mathlib.Core.Path.{◌∙◌}
 use Rattle.call_standing.specs.Standing.{server_of}
-use borrow.Author.Rules.{rules}
 use Rattle.call_standing.proofs.server.Goals as goal
 
 pub returns : goal.returns

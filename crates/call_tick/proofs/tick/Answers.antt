@@ -2,7 +2,6 @@ use Rattle.participant.specs.Call.{fact1}
 use mathlib.Core.Path.{sym, ◌∙◌}
 use Rattle.base_facts.proofs.Laws.{check-failed, check-passed}
 use Rattle.call_tick.specs.Tick.{ticked}
-use borrow.Author.Rules.{rules}
 use Rattle.call_tick.proofs.tick.Goals as goal
 
 pub returns-in_default : goal.returns-in_default

@@ -7,7 +7,6 @@ use Rattle.base_mi.specs.Mi.{mi_at}
 use Rattle.base_packed.specs.Basic.{flags_of}
 use Rattle.frame.specs.Basic.{icv_place, basic_fields}
 use native.Mathlib.Omega.{arith}
-use borrow.Author.Rules.{rules}
 use Rattle.frame.proofs.basic_fields.Goals as goal
 
 pub returns : goal.returns

@@ -1,6 +1,5 @@
 use borrow.Author.Tests.{lt-ltb, le-ltb}
 use Rattle.frame.specs.Basic.{length_of}
-use borrow.Author.Rules.{rules}
 use Rattle.frame.proofs.body_length.Goals as goal
 
 pub returns-then-frame-lt4 : goal.returns-then-frame-lt4

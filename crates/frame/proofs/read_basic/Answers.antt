@@ -1,7 +1,6 @@
 use mathlib.Core.Path.{sym, ◌∙◌}
 use Rattle.frame.specs.Basic.{basic_of}
 use Rattle.frame.proofs.Laws.{length-short, length-octets, answer-refused, answer-read}
-use borrow.Author.Rules.{rules}
 use Rattle.frame.proofs.read_basic.Goals as goal
 
 pub returns-in_default : goal.returns-in_default

@@ -1,6 +1,5 @@
 use borrow.Author.Tests.{ne_eqb}
 use Rattle.frame_rules.specs.Rules.{extent_of}
-use borrow.Author.Rules.{rules}
 use Rattle.frame_rules.proofs.extent.Goals as goal
 
 pub returns-then-t-eq255 : goal.returns-then-t-eq255

@@ -3,7 +3,6 @@ use mathlib.Core.Path.{◌∙◌}
 use native.Mathlib.Omega.{arith}
 use Rattle.base_facts.specs.Facts.{padded_of}
 use Rattle.frame_rules.proofs.Laws as laws
-use borrow.Author.Rules.{rules}
 use Rattle.frame_rules.proofs.shape.Goals as goal
 
 pub returns-then-len-eq16 : goal.returns-then-len-eq16

@@ -2,7 +2,6 @@ use mathlib.Core.Path.{sym, ap, ◌∙◌}
 use Prim.Native.Nat.{ℕ, ◌%◌}
 use Rattle.frame_rules.specs.Rules.{list_len}
 use Rattle.frame_sets.proofs.Laws as laws
-use borrow.Author.Rules.{rules}
 use Rattle.frame_sets.proofs.set_at.Goals as goal
 
 pub returns-in_default : goal.returns-in_default

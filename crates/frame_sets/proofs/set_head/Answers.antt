@@ -5,7 +5,6 @@ use Rattle.frame_rules.specs.Rules.{bad_shape}
 use Rattle.frame_rules.proofs.Laws.{shape-no-room}
 use Rattle.frame_sets.proofs.Laws as laws
 use Rattle.base_facts.proofs.Laws.{check-failed, check-passed}
-use borrow.Author.Rules.{rules}
 use Rattle.frame_sets.proofs.set_head.Goals as goal
 
 pub returns-then-frame-stop : goal.returns-then-frame-stop

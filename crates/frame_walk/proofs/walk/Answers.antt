@@ -1,4 +1,4 @@
-use Prim.Native.Nat.{ℕ, ◌+◌, ◌-◌, ◌%◌, ◌^◌, ◌≤◌, ◌<◌}
+use Prim.Native.Nat.{ℕ, ◌+◌, ◌%◌, ◌^◌, ◌≤◌, ◌<◌}
 use mathlib.Core.Path.{◌≡◌, sym, ap, ap₂, ◌∙◌}
 use mathlib.Core.Bool.{false}
 use lib.ListN.{length, get_or}
@@ -9,7 +9,6 @@ use Rattle.frame_rules.proofs.Laws as extents
 use Rattle.frame_sets.proofs.Laws as rules
 use Rattle.frame_walk.specs.Walk.{next_at, places_after, walk_from, walk_of}
 use Rattle.frame_walk.proofs.Laws as laws
-use borrow.Author.Rules.{rules}
 use native.Mathlib.Omega.{arith}
 use Rattle.frame_walk.proofs.walk.Goals as goal
 

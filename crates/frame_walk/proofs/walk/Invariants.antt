@@ -1,16 +1,6 @@
-use Prim.Native.Nat.{ℕ, ◌+◌, ◌-◌, ◌%◌, ◌^◌, ◌≤◌, ◌<◌}
-use mathlib.Core.Path.{◌≡◌, sym, ap, ap₂, ◌∙◌}
-use mathlib.Core.Bool.{false}
-use lib.ListN.{length, get_or}
-use Rattle.frame_places.specs.Once.{places_with}
-use Rattle.frame_sets.specs.Set.{len_at, bad_head}
-use Rattle.frame_rules.specs.Rules.{list_len, extent_of}
-use Rattle.frame_rules.proofs.Laws as extents
-use Rattle.frame_sets.proofs.Laws as rules
-use Rattle.frame_walk.specs.Walk.{next_at, places_after, walk_from, walk_of}
-use Rattle.frame_walk.proofs.Laws as laws
-use borrow.Author.Rules.{rules}
-use native.Mathlib.Omega.{arith}
+use Prim.Native.Nat.{◌-◌, ◌%◌}
+use mathlib.Core.Path.{◌≡◌}
+use Rattle.frame_walk.specs.Walk.{walk_from}
 use Rattle.frame_walk.proofs.walk.Given as goal
 
 abbrev pub invariant-loop-left : goal.invariant-loop-left

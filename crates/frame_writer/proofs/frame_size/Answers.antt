@@ -1,5 +1,4 @@
 use native.Mathlib.Omega.{arith}
-use borrow.Author.Rules.{rules}
 use Rattle.frame_writer.specs.Frame.{frame_size}
 use Rattle.frame_writer.proofs.frame_size.Goals as goal
 

@@ -1,7 +1,6 @@
 use Prim.Native.Nat.{min}
 use mathlib.Core.Path.{◌≡◌}
 use native.Mathlib.Omega.{arith}
-use borrow.Author.Rules.{rules}
 use borrow.Author.Tests.{ne_eqb}
 use Rattle.frame_writer.specs.Frame.{list_size}
 use Rattle.frame_writer.proofs.list_size.Goals as goal

@@ -2,7 +2,6 @@ use mathlib.Core.List.{◌++◌, List}
 use Prim.Native.Nat.{ℕ}
 use native.Mathlib.Omega.{arith}
 use lib.ListN.{replicate}
-use borrow.Author.Rules.{rules}
 use Rattle.base_octets.proofs.Stores.{sets-on}
 use Rattle.frame_writer.specs.Frame.{use_part, sak_part}
 use Rattle.frame_writer.proofs.Laws.{use-le}

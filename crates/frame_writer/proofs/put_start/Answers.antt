@@ -1,4 +1,3 @@
-use borrow.Author.Rules.{rules}
 use Rattle.base_octets.proofs.Stores.{sets-two}
 use Rattle.frame_writer.specs.Frame.{header_octets, basic_octets}
 use Rattle.frame_writer.proofs.Laws.{length-header}

@@ -6,7 +6,7 @@ use lib.Seq.{sets}
 use lib.ListN.{length}
 use lib.Dec.{ltb}
 use borrow.Author.Tests.{ltb-true, ltb-false, lt-ltb, le-ltb}
-use borrow.Author.Rules.{length_unmapped, rules}
+use borrow.Author.Rules.{rules}
 use Rattle.base_facts.proofs.Laws.{check-failed, check-passed}
 use Rattle.base_octets.specs.Run.{written}
 use Rattle.base_octets.proofs.Stores.{sets-whole}
@@ -20,7 +20,7 @@ unfolding written
 returns-in_default c =
     let a = c.args in
     let held : length a.out.now < c.frame_size-total.result = ltb-true _ _ (check-failed (ltb (length a.out.now) c.frame_size-total.result) (sym c.fail_if.ensures ∙ c.in_default.is)) in
-    let short : length a.out.now < length (frame_of a.m) = omega (arith, c.frame_size-total.ensures, (let sized : length (frame_of c.args.m) ≡ frame_size c.args.m.sender.size c.args.m.live.count c.args.m.potential.count c.args.m.used c.args.m.distributed = frame-sized c.args.m ((let ckn-long : length c.args.m.sender.ckn ≡ 32 = search rules in ckn-long)) ((let live-long : length c.args.m.live.entries ≡ 16 = search (rules, unmapped) in live-long)) ((let potential-long : length c.args.m.potential.entries ≡ 16 = search (rules, unmapped) in potential-long)) ((let wrapped-long : length c.args.m.sak.wrapped ≡ 24 = search rules in wrapped-long)) in sized)) in
+    let short : length a.out.now < length (frame_of a.m) = omega (arith, c.frame_size-total.ensures, (let sized : length (frame_of c.args.m) ≡ frame_size c.args.m.sender.size c.args.m.live.count c.args.m.potential.count c.args.m.used c.args.m.distributed = frame-sized c.args.m (let ckn-long : length c.args.m.sender.ckn ≡ 32 = search rules in ckn-long) (let live-long : length c.args.m.live.entries ≡ 16 = search (rules, unmapped) in live-long) (let potential-long : length c.args.m.potential.entries ≡ 16 = search (rules, unmapped) in potential-long) (let wrapped-long : length c.args.m.sak.wrapped ≡ 24 = search rules in wrapped-long) in sized)) in
     (rw (lt-ltb _ _ short), rw (lt-ltb _ _ short))
 
 pub overflow_sub-total : goal.overflow_sub-total
@@ -64,7 +64,7 @@ unfolding written
 returns c =
     let m = c.args.m in
     let l = c.args.out.now in
-    let e : c.frame_size-total.result ≡ length (frame_of m) = c.frame_size-total.ensures ∙ sym ((let sized : length (frame_of c.args.m) ≡ frame_size c.args.m.sender.size c.args.m.live.count c.args.m.potential.count c.args.m.used c.args.m.distributed = frame-sized c.args.m ((let ckn-long : length c.args.m.sender.ckn ≡ 32 = search rules in ckn-long)) ((let live-long : length c.args.m.live.entries ≡ 16 = search (rules, unmapped) in live-long)) ((let potential-long : length c.args.m.potential.entries ≡ 16 = search (rules, unmapped) in potential-long)) ((let wrapped-long : length c.args.m.sak.wrapped ≡ 24 = search rules in wrapped-long)) in sized)) in
+    let e : c.frame_size-total.result ≡ length (frame_of m) = c.frame_size-total.ensures ∙ sym (let sized : length (frame_of c.args.m) ≡ frame_size c.args.m.sender.size c.args.m.live.count c.args.m.potential.count c.args.m.used c.args.m.distributed = frame-sized c.args.m (let ckn-long : length c.args.m.sender.ckn ≡ 32 = search rules in ckn-long) (let live-long : length c.args.m.live.entries ≡ 16 = search (rules, unmapped) in live-long) (let potential-long : length c.args.m.potential.entries ≡ 16 = search (rules, unmapped) in potential-long) (let wrapped-long : length c.args.m.sak.wrapped ≡ 24 = search rules in wrapped-long) in sized) in
     let k : c.frame_size-total.result - 4 ≡ length (body_octets m) = omega (arith, length-frame m) in
     let held : c.frame_size-total.result ≤ length l = ltb-false _ _ (check-passed (ltb (length l) c.frame_size-total.result) (sym c.fail_if.ensures ∙ c.in-Passed.is)) in
     let room : length (frame_of m) ≤ length l = omega arith in

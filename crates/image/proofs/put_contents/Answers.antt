@@ -5,7 +5,6 @@ use Rattle.base_octets.proofs.Stores.{sets-on}
 use mathlib.Core.List.{◌++◌}
 use Prim.Native.Nat.{◌+◌, ◌*◌}
 use native.Mathlib.Omega.{arith}
-use borrow.Author.Rules.{rules}
 use Rattle.image.proofs.put_contents.Goals as goal
 
 pub returns : goal.returns

@@ -1,6 +1,5 @@
 use Rattle.image_key.specs.Key.{key_clean}
 use borrow.Author.Tests.{lt-ltb, le-ltb}
-use borrow.Author.Rules.{rules}
 use Rattle.image_key.proofs.key_clean.Goals as goal
 
 pub returns-then-octet-lt4 : goal.returns-then-octet-lt4

@@ -1,6 +1,5 @@
 use Rattle.image_key.specs.Key.{slot_at}
 use mathlib.Core.Bool.{true}
-use borrow.Author.Rules.{rules}
 use Rattle.image_key.proofs.slot_at.Goals as goal
 
 pub returns-then-there : goal.returns-then-there

@@ -1,5 +1,4 @@
 use Rattle.image_key.specs.Key.{slot_clean}
-use borrow.Author.Rules.{rules}
 use Rattle.image_key.proofs.slot_clean.Goals as goal
 
 pub returns-then-there : goal.returns-then-there

@@ -1,13 +1,7 @@
-use Prim.Native.Nat.{ℕ, ◌+◌, ◌-◌, ◌*◌, ◌^◌, ◌≤◌, ◌<◌}
-use mathlib.Core.Path.{◌≡◌, ap, sym, ◌∙◌}
-use native.Mathlib.Omega.{arith}
-use lib.ListN.{length, get_or, drop}
-use borrow.Author.Tests.{eq-eqb, ne_eqb}
-use borrow.Author.Rules.{rules}
-use Rattle.base_octets.proofs.Laws.{be_at-lt}
-use Rattle.base_octets.specs.Number.{be_at}
-use Rattle.image_layout.specs.Layout.{place, entry_kind, records_at, offset_at, laid_from, laid_out}
-use Rattle.image_layout.proofs.Laws.{body_below, laid-counted, laid-kind, laid-offset, laid-turn, laid_end}
+use Prim.Native.Nat.{◌-◌, ◌^◌, ◌≤◌, ◌<◌}
+use mathlib.Core.Path.{◌≡◌}
+use lib.ListN.{length, drop}
+use Rattle.image_layout.specs.Layout.{laid_from, laid_out}
 use Rattle.image_layout.proofs.laid_out.Given as goal
 
 abbrev pub invariant-loop-i : goal.invariant-loop-i

@@ -1,5 +1,4 @@
 use Prim.Native.Nat.{◌+◌}
-use borrow.Author.Rules.{rules}
 use Rattle.image_layout.specs.Layout.{place}
 use Rattle.image_layout.proofs.Laws.{entry-stored}
 use Rattle.image_layout.proofs.put_entry.Goals as goal

@@ -1,4 +1,3 @@
-use borrow.Author.Rules.{rules}
 use Rattle.image_layout.proofs.Laws.{head-stored}
 use Rattle.image_layout.proofs.put_head.Goals as goal
 

@@ -1,6 +1,5 @@
 use Rattle.image_own.specs.Own.{own_at}
 use lib.Dec.{eqb}
-use borrow.Author.Rules.{rules}
 use Rattle.image_own.proofs.own_at.Goals as goal
 
 pub returns : goal.returns

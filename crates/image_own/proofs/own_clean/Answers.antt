@@ -1,6 +1,5 @@
 use Rattle.image_own.specs.Own.{own_clean}
 use borrow.Author.Tests.{le-leb, lt-leb}
-use borrow.Author.Rules.{rules}
 use Rattle.image_own.proofs.own_clean.Goals as goal
 
 pub returns-then-octet-le1 : goal.returns-then-octet-le1

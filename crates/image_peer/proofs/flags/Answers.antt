@@ -2,7 +2,6 @@ use Rattle.image_peer.proofs.Laws.{peer-sum}
 use Rattle.base_packed.proofs.Laws.{bit-lt}
 use mathlib.Core.Path.{◌∙◌}
 use native.Mathlib.Omega.{arith}
-use borrow.Author.Rules.{rules}
 use Rattle.image_peer.proofs.flags.Goals as goal
 
 pub returns : goal.returns

@@ -3,7 +3,6 @@ use lib.Dec.{eqb}
 use lib.Bits.{and_mask}
 use Prim.Native.Nat.{ℕ, ◌/◌, ◌%◌}
 use mathlib.Core.Path.{ap, ◌∙◌}
-use borrow.Author.Rules.{rules}
 use Rattle.image_peer.proofs.peer_at.Goals as goal
 
 pub returns : goal.returns

@@ -3,7 +3,6 @@ use lib.Bits.{and_mask}
 use borrow.Author.Tests.{eq-eqb, ne_eqb}
 use Prim.Native.Nat.{◌/◌, ◌%◌}
 use mathlib.Core.Path.{sym, ◌∙◌}
-use borrow.Author.Rules.{rules}
 use Rattle.image_peer.proofs.peer_clean.Goals as goal
 
 pub returns-then-b-ne0 : goal.returns-then-b-ne0

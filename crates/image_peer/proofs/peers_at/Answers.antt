@@ -2,9 +2,7 @@ use Rattle.image_peer.proofs.Laws.{peers_at-step, length-peers_at}
 use Rattle.image_peer.specs.Peer.{peers_at}
 use Rattle.table.specs.Table.{blank_peer}
 use Rattle.law_lists.specs.Lists.{pad}
-use Prim.Native.Nat.{◌-◌, ◌≤◌}
 use mathlib.Core.Path.{◌≡◌, sym}
-use borrow.Author.Rules.{rules}
 use native.Mathlib.Omega.{arith}
 use Rattle.image_peer.proofs.peers_at.Goals as goal
 

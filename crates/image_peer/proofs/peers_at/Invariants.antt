@@ -1,11 +1,8 @@
-use Rattle.image_peer.proofs.Laws.{peers_at-step, length-peers_at}
 use Rattle.image_peer.specs.Peer.{peers_at}
 use Rattle.table.specs.Table.{blank_peer}
 use Rattle.law_lists.specs.Lists.{pad}
 use Prim.Native.Nat.{◌-◌, ◌≤◌}
-use mathlib.Core.Path.{◌≡◌, sym}
-use borrow.Author.Rules.{rules}
-use native.Mathlib.Omega.{arith}
+use mathlib.Core.Path.{◌≡◌}
 use Rattle.image_peer.proofs.peers_at.Given as goal
 
 abbrev pub invariant-loop-i : goal.invariant-loop-i

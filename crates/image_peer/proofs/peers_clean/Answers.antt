@@ -1,11 +1,6 @@
-use mathlib.Core.Bool.{not}
-use mathlib.Core.Path.{ap}
 use Rattle.image_peer.proofs.Laws.{peers_clean-next, peers_clean-bad, peers_clean-end}
-use Rattle.image_peer.specs.Peer.{peers_clean}
-use borrow.Author.Tests.{not-true, not-false}
-use Prim.Native.Nat.{◌+◌, ◌-◌, ◌*◌, ◌≤◌}
-use mathlib.Core.Path.{◌≡◌, sym, ◌∙◌, ap₂}
-use borrow.Author.Rules.{rules}
+use Prim.Native.Nat.{◌+◌, ◌*◌}
+use mathlib.Core.Path.{sym, ◌∙◌}
 use native.Mathlib.Omega.{arith}
 use Rattle.image_peer.proofs.peers_clean.Goals as goal
 

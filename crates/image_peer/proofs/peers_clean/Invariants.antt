@@ -1,10 +1,6 @@
-use Rattle.image_peer.proofs.Laws.{peers_clean-next, peers_clean-bad, peers_clean-end}
 use Rattle.image_peer.specs.Peer.{peers_clean}
-use borrow.Author.Tests.{not-true, not-false}
 use Prim.Native.Nat.{◌+◌, ◌-◌, ◌*◌, ◌≤◌}
-use mathlib.Core.Path.{◌≡◌, sym, ◌∙◌, ap₂}
-use borrow.Author.Rules.{rules}
-use native.Mathlib.Omega.{arith}
+use mathlib.Core.Path.{◌≡◌}
 use Rattle.image_peer.proofs.peers_clean.Given as goal
 
 abbrev pub invariant-loop-i : goal.invariant-loop-i

@@ -5,10 +5,10 @@ use Rattle.table.specs.declared.Peer.{Peer}
 use Rattle.table.specs.Table.{blank_peer}
 use Rattle.base_octets.proofs.Stores.{runs-step}
 use lib.Seq.{sets}
-use lib.ListN.{length, length-map, take, drop}
+use lib.ListN.{length, take}
 use mathlib.Core.List.{List}
-use Prim.Native.Nat.{ℕ, ◌+◌, ◌-◌, ◌*◌, ◌≤◌}
-use mathlib.Core.Path.{◌≡◌, ap, sym, ◌∙◌, refl}
+use Prim.Native.Nat.{ℕ, ◌+◌, ◌*◌}
+use mathlib.Core.Path.{◌≡◌, ap, sym, ◌∙◌}
 use borrow.Author.Rules.{rules}
 use native.Mathlib.Omega.{arith}
 use Rattle.image_peer.proofs.put_peers.Goals as goal

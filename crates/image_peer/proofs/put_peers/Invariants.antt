@@ -1,16 +1,8 @@
-use Rattle.image_peer.proofs.Laws.{length-peer}
-use Rattle.image_peer.specs.Peer.{peer_octets, peers_octets}
-use Rattle.law_lists.specs.Laws.{drop-end}
-use Rattle.table.specs.declared.Peer.{Peer}
-use Rattle.table.specs.Table.{blank_peer}
-use Rattle.base_octets.proofs.Stores.{runs-step}
+use Rattle.image_peer.specs.Peer.{peers_octets}
 use lib.Seq.{sets}
-use lib.ListN.{length, length-map, take, drop}
-use mathlib.Core.List.{List}
-use Prim.Native.Nat.{ℕ, ◌+◌, ◌-◌, ◌*◌, ◌≤◌}
-use mathlib.Core.Path.{◌≡◌, ap, sym, ◌∙◌, refl}
-use borrow.Author.Rules.{rules}
-use native.Mathlib.Omega.{arith}
+use lib.ListN.{length, take, drop}
+use Prim.Native.Nat.{◌+◌, ◌-◌, ◌*◌, ◌≤◌}
+use mathlib.Core.Path.{◌≡◌}
 use Rattle.image_peer.proofs.put_peers.Given as goal
 
 abbrev pub invariant-loop-i : goal.invariant-loop-i

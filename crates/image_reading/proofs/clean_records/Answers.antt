@@ -8,7 +8,6 @@ use lib.Dec.{ltb}
 use Prim.Native.Nat.{ℕ, ◌+◌, ◌*◌}
 use borrow.Author.Tests.{not-true, not-false}
 use mathlib.Core.Path.{◌≡◌, ap, ap₂, sym, ◌∙◌}
-use borrow.Author.Rules.{rules}
 use Rattle.image_reading.proofs.clean_records.Goals as goal
 
 pub returns-then-not-own_clean : goal.returns-then-not-own_clean

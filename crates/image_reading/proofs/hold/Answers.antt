@@ -1,6 +1,5 @@
 use mathlib.Core.Path.{◌≡◌, sym, ◌∙◌}
 use mathlib.Core.Bool.{◌&&◌}
-use borrow.Author.Tests.{not-true, not-false}
 use Rattle.table.specs.declared.Table.{Table}
 use Rattle.table.specs.Table.{entries}
 use Rattle.participant.specs.declared.Participant.{Participant}

@@ -1,6 +1,5 @@
 use Rattle.image_reading.specs.Read.{numbers_good}
 use borrow.Author.Tests.{le-leb, lt-leb, eq-eqb, ne_eqb}
-use borrow.Author.Rules.{rules}
 use Rattle.image_reading.proofs.numbers_good.Goals as goal
 
 pub returns-then-records_at-ne1 : goal.returns-then-records_at-ne1

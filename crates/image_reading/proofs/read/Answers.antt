@@ -30,14 +30,14 @@ returns-in_default c = rw (parted c.args.s.now, sym c.formed.ensures ∙ not-tru
 
 pub returns-in_default-fail_if : goal.returns-in_default-fail_if
 unfolding read_of told_by
-returns-in_default-fail_if c = let held = sym (c.hold.ensures ∙ ap rules ((let both : set_table c.peers_at-t.result c.told-p.result ≡ told_by c.args.s.now = let s = c.args.s.now in
+returns-in_default-fail_if c = let held = sym (c.hold.ensures ∙ ap rules (let both : set_table c.peers_at-t.result c.told-p.result ≡ told_by c.args.s.now = let s = c.args.s.now in
     let table = c.peers_at-t.ensures ∙ ap₂ (λ (at n : ℕ). table_of (peers_at s at (min n 16))) c.offset_at.ensures c.records_at.ensures in
-    ap₂ set_table table c.told-p.ensures in both))) ∙ not-true _ (check-failed (not c.hold.result) (sym c.fail_if-2.ensures ∙ c.in_default-fail_if.is)) in rw (parted c.args.s.now, sym c.formed.ensures ∙ not-false _ (check-passed (not c.formed.result) (sym c.fail_if.ensures ∙ c.in-Passed.is)), held) (c.refused-in_default-fail_if.ensures ∙ ap (λ (p : Participant). refused_of p 16) c.blank-in_default-fail_if.ensures)
+    ap₂ set_table table c.told-p.ensures in both)) ∙ not-true _ (check-failed (not c.hold.result) (sym c.fail_if-2.ensures ∙ c.in_default-fail_if.is)) in rw (parted c.args.s.now, sym c.formed.ensures ∙ not-false _ (check-passed (not c.formed.result) (sym c.fail_if.ensures ∙ c.in-Passed.is)), held) (c.refused-in_default-fail_if.ensures ∙ ap (λ (p : Participant). refused_of p 16) c.blank-in_default-fail_if.ensures)
 
 pub returns : goal.returns
 unfolding read_of told_by
-returns c = let held = sym (c.hold.ensures ∙ ap rules ((let both : set_table c.peers_at-t.result c.told-p.result ≡ told_by c.args.s.now = let s = c.args.s.now in
+returns c = let held = sym (c.hold.ensures ∙ ap rules (let both : set_table c.peers_at-t.result c.told-p.result ≡ told_by c.args.s.now = let s = c.args.s.now in
     let table = c.peers_at-t.ensures ∙ ap₂ (λ (at n : ℕ). table_of (peers_at s at (min n 16))) c.offset_at.ensures c.records_at.ensures in
-    ap₂ set_table table c.told-p.ensures in both))) ∙ not-false _ (check-passed (not c.hold.result) (sym c.fail_if-2.ensures ∙ c.in-Passed-fail_if.is)) in rw (parted c.args.s.now, sym c.formed.ensures ∙ not-false _ (check-passed (not c.formed.result) (sym c.fail_if.ensures ∙ c.in-Passed.is)), held) (c.done.ensures ∙ ap done_of ((let both : set_table c.peers_at-t.result c.told-p.result ≡ told_by c.args.s.now = let s = c.args.s.now in
+    ap₂ set_table table c.told-p.ensures in both)) ∙ not-false _ (check-passed (not c.hold.result) (sym c.fail_if-2.ensures ∙ c.in-Passed-fail_if.is)) in rw (parted c.args.s.now, sym c.formed.ensures ∙ not-false _ (check-passed (not c.formed.result) (sym c.fail_if.ensures ∙ c.in-Passed.is)), held) (c.done.ensures ∙ ap done_of (let both : set_table c.peers_at-t.result c.told-p.result ≡ told_by c.args.s.now = let s = c.args.s.now in
     let table = c.peers_at-t.ensures ∙ ap₂ (λ (at n : ℕ). table_of (peers_at s at (min n 16))) c.offset_at.ensures c.records_at.ensures in
-    ap₂ set_table table c.told-p.ensures in both)))
+    ap₂ set_table table c.told-p.ensures in both))

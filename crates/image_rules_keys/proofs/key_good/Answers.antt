@@ -1,9 +1,6 @@
-use mathlib.Core.Bool.{not}
-use mathlib.Core.Path.{ap}
 use mathlib.Core.Path.{sym, ◌∙◌}
 use native.Mathlib.Omega.{arith}
-use borrow.Author.Tests.{lt-ltb, le-ltb, not-true, not-false}
-use borrow.Author.Rules.{rules}
+use borrow.Author.Tests.{lt-ltb, le-ltb}
 use Rattle.image_rules.specs.Records.{key_good}
 use Rattle.image_rules_keys.proofs.key_good.Goals as goal
 

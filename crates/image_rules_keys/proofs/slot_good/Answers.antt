@@ -1,4 +1,3 @@
-use borrow.Author.Rules.{rules}
 use Rattle.image_rules.specs.Records.{slot_good}
 use Rattle.image_rules_keys.proofs.slot_good.Goals as goal
 

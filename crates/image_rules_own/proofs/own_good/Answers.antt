@@ -1,9 +1,6 @@
-use mathlib.Core.Bool.{not}
-use mathlib.Core.Path.{ap}
 use mathlib.Core.Path.{sym, ◌∙◌}
 use native.Mathlib.Omega.{arith}
-use borrow.Author.Tests.{le-leb, lt-leb, not-true, not-false}
-use borrow.Author.Rules.{rules}
+use borrow.Author.Tests.{le-leb, lt-leb}
 use Rattle.image_rules.specs.Records.{own_good}
 use Rattle.image_rules_own.proofs.own_good.Goals as goal
 

@@ -1,8 +1,4 @@
-use mathlib.Core.Bool.{not}
-use mathlib.Core.Path.{ap}
 use mathlib.Core.Path.{sym, ◌∙◌}
-use borrow.Author.Tests.{not-true, not-false}
-use borrow.Author.Rules.{rules}
 use Rattle.image_rules.specs.Rules.{unused_zero}
 use Rattle.image_rules_own.proofs.unused_zero.Goals as goal
 

@@ -1,9 +1,6 @@
-use mathlib.Core.Bool.{not}
-use mathlib.Core.Path.{ap}
 use mathlib.Core.Path.{sym, ◌∙◌}
 use native.Mathlib.Omega.{arith}
-use borrow.Author.Tests.{lt-ltb, le-ltb, eq-eqb, ne_eqb, not-true, not-false}
-use borrow.Author.Rules.{rules}
+use borrow.Author.Tests.{lt-ltb, le-ltb, eq-eqb, ne_eqb}
 use Rattle.image_rules.specs.Records.{peer_good}
 use Rattle.image_rules_peers.proofs.peer_good.Goals as goal
 

@@ -1,14 +1,10 @@
-use mathlib.Core.Bool.{not}
-use mathlib.Core.Path.{ap}
-use Prim.Native.Nat.{ℕ, ◌+◌, ◌-◌, ◌<◌, min}
+use Prim.Native.Nat.{ℕ, ◌+◌, ◌<◌, min}
 use mathlib.Core.Path.{◌≡◌, refl, sym, ◌∙◌}
 use mathlib.Core.List.{◌∷◌}
 use lib.ListN.{length, drop, get_or}
 use Rattle.table.specs.declared.Table.{Table}
-use borrow.Author.Tests.{not-true, not-false}
 use borrow.Author.Rules.{rules}
 use Rattle.table.specs.Table.{room, blank_peer, entries}
-use Rattle.table_expiry.specs.Kept.{absent}
 use Rattle.law_lists.specs.Laws.{loop-next, drop-end}
 use Rattle.image_rules.specs.Records.{peers_good}
 use Rattle.image_rules_peers.proofs.peers_good.Goals as goal

@@ -1,12 +1,8 @@
-use Prim.Native.Nat.{ℕ, ◌+◌, ◌-◌, ◌<◌, min}
-use mathlib.Core.Path.{◌≡◌, refl, sym, ◌∙◌}
-use mathlib.Core.List.{◌∷◌}
-use lib.ListN.{length-map, drop, get_or}
-use borrow.Author.Tests.{not-true, not-false}
-use borrow.Author.Rules.{rules}
-use Rattle.table.specs.Table.{room, blank_peer, entries}
+use Prim.Native.Nat.{◌+◌, ◌-◌}
+use mathlib.Core.Path.{◌≡◌}
+use lib.ListN.{drop}
+use Rattle.table.specs.Table.{entries}
 use Rattle.table_expiry.specs.Kept.{absent}
-use Rattle.law_lists.specs.Laws.{loop-next, drop-end}
 use Rattle.image_rules.specs.Records.{peers_good}
 use Rattle.image_rules_peers.proofs.peers_good.Given as goal
 

@@ -1,4 +1,3 @@
-use borrow.Author.Rules.{rules}
 use Rattle.page.specs.Status.{key_text}
 use Rattle.page.proofs.put_key.Goals as goal
 

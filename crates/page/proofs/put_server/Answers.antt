@@ -1,4 +1,3 @@
-use borrow.Author.Rules.{rules}
 use Rattle.page.specs.Status.{server_text}
 use Rattle.page.proofs.put_server.Goals as goal
 

@@ -2,7 +2,6 @@ use mathlib.Core.Path.{◌∙◌}
 use native.Mathlib.Nat.{zero-add}
 use native.Mathlib.Omega.{arith}
 use lib.ListN.{length, replicate}
-use borrow.Author.Rules.{rules}
 use Rattle.page.specs.Text.{ascii, line_room, line_of}
 use Rattle.page.specs.Status.{status_text}
 use Rattle.page.proofs.Stores.{stored, number-end, server-end}

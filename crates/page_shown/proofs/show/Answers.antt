@@ -2,7 +2,6 @@ use Rattle.page_shown.specs.Show.{shown_of}
 use Rattle.page.specs.Text.{ended_of}
 use Rattle.participant.specs.declared.call.Answer.TheVariants.{Done, Refused}
 use mathlib.Core.Path.{◌≡◌, ap, sym, ◌∙◌}
-use borrow.Author.Rules.{rules}
 use Rattle.page_shown.proofs.show.Goals as goal
 
 pub returns-in-Done : goal.returns-in-Done

@@ -1,4 +1,3 @@
-use borrow.Author.Rules.{rules}
 use Rattle.table.specs.Table.{empty_table}
 use Rattle.table.proofs.empty.Goals as goal
 

@@ -1,14 +1,8 @@
-use Prim.Native.Nat.{◌-◌, ◌≤◌, ◌<◌}
-use mathlib.Core.Path.{◌≡◌, ap, sym, ◌∙◌}
-use mathlib.Core.List.{◌∷◌, []}
-use mathlib.Core.Logic.{⊎_elim}
-use native.Mathlib.Omega.{arith}
-use lib.ListN.{length, length-map, length-append, take, get_or}
-use borrow.Author.Rules.{rules}
-use Rattle.table.specs.Table.{blank_peer}
+use Prim.Native.Nat.{◌-◌, ◌≤◌}
+use mathlib.Core.Path.{◌≡◌}
+use lib.ListN.{length, take}
 use Rattle.law_lists.specs.Lists.{those}
 use Rattle.table_counts.specs.Counts.{is_of}
-use Rattle.law_lists.specs.Laws.{those-kept, those-gone}
 use Rattle.table_counts.proofs.count_of.Given as goal
 
 abbrev pub invariant-loop-i : goal.invariant-loop-i

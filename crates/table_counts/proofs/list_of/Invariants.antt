@@ -1,13 +1,9 @@
-use Prim.Native.Nat.{◌-◌, ◌≤◌, ◌<◌}
-use mathlib.Core.Path.{◌≡◌, sym, ◌∙◌}
+use Prim.Native.Nat.{◌-◌, ◌≤◌}
+use mathlib.Core.Path.{◌≡◌}
 use mathlib.Core.List.{map}
-use mathlib.Core.Logic.{⊎_elim}
-use native.Mathlib.Omega.{arith}
-use lib.ListN.{length, length-map, take}
-use borrow.Author.Rules.{rules}
+use lib.ListN.{length, take}
 use Rattle.law_lists.specs.Lists.{those, pad}
 use Rattle.table_counts.specs.Counts.{is_of, entry_of, blank_entry}
-use Rattle.law_lists.specs.Laws.{store_kept, store-gone}
 use Rattle.table_counts.proofs.list_of.Given as goal
 
 abbrev pub invariant-loop-i : goal.invariant-loop-i

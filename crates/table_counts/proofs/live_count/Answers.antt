@@ -1,4 +1,3 @@
-use borrow.Author.Rules.{rules}
 use Rattle.table_counts.specs.Counts.{live_count}
 use Rattle.table_counts.proofs.live_count.Goals as goal
 

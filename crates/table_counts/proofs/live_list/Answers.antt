@@ -1,4 +1,3 @@
-use borrow.Author.Rules.{rules}
 use Rattle.table_counts.specs.Counts.{live_list}
 use Rattle.table_counts.proofs.live_list.Goals as goal
 

@@ -1,4 +1,3 @@
-use borrow.Author.Rules.{rules}
 use Rattle.table_counts.specs.Counts.{potential_count}
 use Rattle.table_counts.proofs.potential_count.Goals as goal
 

@@ -1,4 +1,3 @@
-use borrow.Author.Rules.{rules}
 use Rattle.table_counts.specs.Counts.{potential_list}
 use Rattle.table_counts.proofs.potential_list.Goals as goal
 

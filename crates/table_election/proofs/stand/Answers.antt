@@ -1,8 +1,7 @@
-use Prim.Native.Nat.{◌+◌, ◌-◌, ◌≤◌, ◌<◌}
+use Prim.Native.Nat.{◌+◌, ◌≤◌, ◌<◌}
 use mathlib.Core.Path.{◌≡◌, sym, ◌∙◌}
-use mathlib.Core.Logic.{⊎_elim}
 use native.Mathlib.Omega.{arith}
-use lib.ListN.{length, length-map, take}
+use lib.ListN.{length, take}
 use borrow.Author.Tests.{eq-eqb, ne_eqb}
 use borrow.Author.Rules.{rules}
 use Rattle.law_lists.specs.Lists.{those}
@@ -30,16 +29,16 @@ pub returns-then-may_lead : goal.returns-then-may_lead
 unfolding live_count
 returns-then-may_lead c =
     let z : c.loop-i.live ≡ 0 → ⊥ = λ h. omega arith in
-    stood _ _ _ _ _ ((let counted : c.loop-i.live ≡ live_count c.args.t = rw (c.loop-i.invariant.2, (let passed : c.loop-i.i ≡ c.at_most-n.result = omega arith in passed), c.at_most-n.ensures) in counted)) ((let found : c.loop-i.theirs ≡ some_beats c.args.own (entries c.args.t) = rw (c.loop-i.invariant.3, (let passed : c.loop-i.i ≡ c.at_most-n.result = omega arith in passed), c.at_most-n.ensures) in found)) (rw (ne_eqb c.loop-i.live 0 z, sym c.may_lead.ensures ∙ c.if-may_lead.true))
+    stood _ _ _ _ _ (let counted : c.loop-i.live ≡ live_count c.args.t = rw (c.loop-i.invariant.2, (let passed : c.loop-i.i ≡ c.at_most-n.result = omega arith in passed), c.at_most-n.ensures) in counted) (let found : c.loop-i.theirs ≡ some_beats c.args.own (entries c.args.t) = rw (c.loop-i.invariant.3, (let passed : c.loop-i.i ≡ c.at_most-n.result = omega arith in passed), c.at_most-n.ensures) in found) (rw (ne_eqb c.loop-i.live 0 z, sym c.may_lead.ensures ∙ c.if-may_lead.true))
 
 pub returns-else-may_lead : goal.returns-else-may_lead
 unfolding live_count
 returns-else-may_lead c =
     let z : c.loop-i.live ≡ 0 → ⊥ = λ h. omega arith in
-    stood _ _ _ _ _ ((let counted : c.loop-i.live ≡ live_count c.args.t = rw (c.loop-i.invariant.2, (let passed : c.loop-i.i ≡ c.at_most-n.result = omega arith in passed), c.at_most-n.ensures) in counted)) ((let found : c.loop-i.theirs ≡ some_beats c.args.own (entries c.args.t) = rw (c.loop-i.invariant.3, (let passed : c.loop-i.i ≡ c.at_most-n.result = omega arith in passed), c.at_most-n.ensures) in found)) (rw (ne_eqb c.loop-i.live 0 z, sym c.may_lead.ensures ∙ c.if-may_lead.false))
+    stood _ _ _ _ _ (let counted : c.loop-i.live ≡ live_count c.args.t = rw (c.loop-i.invariant.2, (let passed : c.loop-i.i ≡ c.at_most-n.result = omega arith in passed), c.at_most-n.ensures) in counted) (let found : c.loop-i.theirs ≡ some_beats c.args.own (entries c.args.t) = rw (c.loop-i.invariant.3, (let passed : c.loop-i.i ≡ c.at_most-n.result = omega arith in passed), c.at_most-n.ensures) in found) (rw (ne_eqb c.loop-i.live 0 z, sym c.may_lead.ensures ∙ c.if-may_lead.false))
 
 pub returns-else-live-gt0 : goal.returns-else-live-gt0
 unfolding live_count
 returns-else-live-gt0 c =
     let z : c.loop-i.live ≡ 0 = omega arith in
-    stood _ _ _ _ _ ((let counted : c.loop-i.live ≡ live_count c.args.t = rw (c.loop-i.invariant.2, (let passed : c.loop-i.i ≡ c.at_most-n.result = omega arith in passed), c.at_most-n.ensures) in counted)) ((let found : c.loop-i.theirs ≡ some_beats c.args.own (entries c.args.t) = rw (c.loop-i.invariant.3, (let passed : c.loop-i.i ≡ c.at_most-n.result = omega arith in passed), c.at_most-n.ensures) in found)) (rw (eq-eqb c.loop-i.live 0 z))
+    stood _ _ _ _ _ (let counted : c.loop-i.live ≡ live_count c.args.t = rw (c.loop-i.invariant.2, (let passed : c.loop-i.i ≡ c.at_most-n.result = omega arith in passed), c.at_most-n.ensures) in counted) (let found : c.loop-i.theirs ≡ some_beats c.args.own (entries c.args.t) = rw (c.loop-i.invariant.3, (let passed : c.loop-i.i ≡ c.at_most-n.result = omega arith in passed), c.at_most-n.ensures) in found) (rw (eq-eqb c.loop-i.live 0 z))

@@ -1,17 +1,9 @@
-use Prim.Native.Nat.{◌+◌, ◌-◌, ◌≤◌, ◌<◌}
-use mathlib.Core.Path.{◌≡◌, sym, ◌∙◌}
-use mathlib.Core.Logic.{⊎_elim}
-use native.Mathlib.Omega.{arith}
-use lib.ListN.{length, length-map, take}
-use borrow.Author.Tests.{eq-eqb, ne_eqb}
-use borrow.Author.Rules.{rules}
+use Prim.Native.Nat.{◌-◌, ◌≤◌}
+use mathlib.Core.Path.{◌≡◌}
+use lib.ListN.{length, take}
 use Rattle.law_lists.specs.Lists.{those}
-use Rattle.table.specs.Table.{entries}
 use Rattle.table_lookup.specs.Look.{is_live}
-use Rattle.table_counts.specs.Counts.{live_count}
 use Rattle.table_election.specs.Stand.{some_beats}
-use Rattle.law_lists.specs.Laws.{or-none, or-true}
-use Rattle.table_election.proofs.Beaten.{live_more, live_same, some_next, stood}
 use Rattle.table_election.proofs.stand.Given as goal
 
 abbrev pub invariant-loop-i : goal.invariant-loop-i

@@ -1,4 +1,3 @@
-use borrow.Author.Rules.{rules}
 use Rattle.table_enter.specs.Enter.{updated}
 use Rattle.table_enter.proofs.update.Goals as goal
 

@@ -1,14 +1,9 @@
-use Prim.Native.Nat.{◌-◌, ◌≤◌, ◌<◌, min}
-use mathlib.Core.Path.{◌≡◌, ap, sym, ◌∙◌}
-use mathlib.Core.Logic.{⊎_elim}
-use native.Mathlib.Omega.{arith}
-use lib.ListN.{length, length-map, take, drop}
-use borrow.Author.Rules.{rules}
-use Rattle.table.specs.declared.Table.{Table}
-use Rattle.table_expiry.specs.Expiry.{steady_in, aged_list, expired}
-use Rattle.table_expiry.proofs.Aging.{length-entries, expired-steady}
-use Rattle.table_expiry.proofs.Steady.{steady_so_far, steady-turn, steady-end}
-use Rattle.table_expiry.proofs.Moving.{moved_up, moved-kept, moved-gone}
+use Prim.Native.Nat.{◌-◌, ◌≤◌}
+use mathlib.Core.Path.{◌≡◌}
+use lib.ListN.{length, take, drop}
+use Rattle.table_expiry.specs.Expiry.{steady_in, aged_list}
+use Rattle.table_expiry.proofs.Steady.{steady_so_far}
+use Rattle.table_expiry.proofs.Moving.{moved_up}
 use Rattle.table_expiry.proofs.expire.Given as goal
 
 abbrev pub invariant-loop-i : goal.invariant-loop-i

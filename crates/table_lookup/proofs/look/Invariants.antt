@@ -1,10 +1,7 @@
 use Prim.Native.Nat.{◌-◌, ◌≤◌}
-use mathlib.Core.Path.{◌≡◌, sym, ◌∙◌}
-use lib.ListN.{length, length-map, take, drop}
-use borrow.Author.Rules.{rules}
-use Rattle.table.specs.Table.{blank_peer}
-use Rattle.table_lookup.specs.Look.{seek, held_in}
-use Rattle.law_lists.specs.Laws.{loop-next, drop-end}
+use mathlib.Core.Path.{◌≡◌}
+use lib.ListN.{take, drop}
+use Rattle.table_lookup.specs.Look.{seek}
 use Rattle.table_lookup.proofs.look.Given as goal
 
 abbrev pub invariant-loop-i : goal.invariant-loop-i

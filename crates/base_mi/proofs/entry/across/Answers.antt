@@ -1,6 +1,5 @@
 use Rattle.base_mi.specs.Entry.{entry_at}
 use Rattle.base_mi.proofs.Laws as laws
-use borrow.Author.Rules.{rules}
 use Rattle.base_mi.proofs.entry.across.Goals as goal
 
 pub returns-then-s-at : goal.returns-then-s-at

@@ -1,9 +1,5 @@
 use Rattle.base_mi.proofs.Laws as laws
 use Rattle.base_mi.specs.Entry.{cut_at}
-use lib.ListN.{replicate}
-use mathlib.Core.List.{◌++◌, append-nil}
-use mathlib.Core.Path.{◌≡◌, ◌∙◌}
-use Prim.Native.Nat.{◌≤◌, ◌-◌}
 use borrow.Author.Rules.{rules}
 use native.Mathlib.Omega.{arith}
 use Rattle.base_mi.proofs.entry.copied.Goals as goal

@@ -6,7 +6,6 @@ use lib.Dec.{lit≤}
 use mathlib.Core.List.{List}
 use mathlib.Core.Path.{ap, ◌∙◌}
 use Prim.Native.Nat.{ℕ}
-use borrow.Author.Rules.{rules}
 use Rattle.base_mi.proofs.entry.entry_at.Goals as goal
 
 pub returns : goal.returns

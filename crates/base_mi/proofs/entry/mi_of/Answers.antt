@@ -4,7 +4,6 @@ use native.Mathlib.Omega.{arith}
 use Rattle.base_octets.specs.Number.{be_at}
 use Rattle.base_mi.specs.Mi.{mi_at}
 use Rattle.base_octets.proofs.Laws.{be_at-halves}
-use borrow.Author.Rules.{rules}
 use Rattle.base_mi.proofs.entry.mi_of.Goals as goal
 
 pub returns : goal.returns

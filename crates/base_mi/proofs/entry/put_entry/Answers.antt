@@ -4,7 +4,6 @@ use Rattle.base_mi.specs.Mi.{mi_octets}
 use Rattle.base_mi.specs.Entry.{entry_octets}
 use Rattle.base_octets.proofs.Laws.{sets-out, sets_then}
 use Rattle.base_mi.proofs.Laws.{length-mi}
-use borrow.Author.Rules.{rules}
 use Rattle.base_mi.proofs.entry.put_entry.Goals as goal
 
 pub returns-then-out-at : goal.returns-then-out-at

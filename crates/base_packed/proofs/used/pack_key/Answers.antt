@@ -1,7 +1,6 @@
 use mathlib.Core.Path.{◌∙◌}
 use Rattle.base_packed.proofs.Laws.{key-sum, bit-lt}
 use native.Mathlib.Omega.{arith}
-use borrow.Author.Rules.{rules}
 use Rattle.base_packed.proofs.used.pack_key.Goals as goal
 
 pub returns : goal.returns

@@ -1,12 +1,7 @@
-use mathlib.Core.Bool.{not}
-use mathlib.Core.Path.{◌≡◌, ap, ap₂, ◌∙◌}
+use mathlib.Core.Path.{ap₂, ◌∙◌}
 use borrow.Author.Tests.{eq-eqb, ne_eqb}
-use Rattle.participant.specs.declared.Slot.{Slot}
-use Rattle.participant.specs.declared.Key.{Key}
 use Rattle.participant.specs.Keys.{slot_of}
 use Rattle.call_hearing.specs.Keys.{none_taken, taken_of}
-use native.Mathlib.Omega.{arith}
-use borrow.Author.Rules.{rules}
 use Rattle.call_hearing.proofs.keys.take_sak.Goals as goal
 
 pub returns-then-not-sak : goal.returns-then-not-sak

@@ -1,5 +1,4 @@
 use Rattle.call_hearing.proofs.Heard.{named-empty}
-use borrow.Author.Rules.{rules}
 use Rattle.call_hearing.proofs.proof.named.Goals as goal
 
 pub returns-then-list-eq0 : goal.returns-then-list-eq0

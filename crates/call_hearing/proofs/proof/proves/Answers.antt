@@ -1,5 +1,4 @@
 use Rattle.call_hearing.specs.Proof.{proves_in}
-use borrow.Author.Rules.{rules}
 use Rattle.call_hearing.proofs.proof.proves.Goals as goal
 
 pub returns-then-named : goal.returns-then-named

@@ -1,9 +1,9 @@
-use mathlib.Core.Path.{◌≡◌, refl, sym, ◌∙◌}
-use Prim.Native.Nat.{◌-◌, ◌^◌, ◌≤◌, ◌<◌}
+use mathlib.Core.Path.{sym, ◌∙◌}
+use Prim.Native.Nat.{◌^◌, ◌<◌}
 use Rattle.call_hearing.proofs.Heard as laws
-use lib.ListN.{length, drop}
+use lib.ListN.{drop}
 use Rattle.frame_walk.specs.List.{entries_in, found_in}
-use Rattle.call_hearing.specs.Proof.{any_recent, named_in}
+use Rattle.call_hearing.specs.Proof.{named_in}
 use borrow.Author.Rules.{rules}
 use native.Mathlib.Omega.{arith}
 use Rattle.call_hearing.proofs.proof.searched.Goals as goal

@@ -1,11 +1,8 @@
-use mathlib.Core.Path.{◌≡◌, refl, sym, ◌∙◌}
-use Prim.Native.Nat.{◌-◌, ◌^◌, ◌≤◌, ◌<◌}
-use Rattle.call_hearing.proofs.Heard as laws
+use mathlib.Core.Path.{◌≡◌}
+use Prim.Native.Nat.{◌-◌, ◌≤◌}
 use lib.ListN.{length, drop}
-use Rattle.frame_walk.specs.List.{entries_in, found_in}
-use Rattle.call_hearing.specs.Proof.{any_recent, named_in}
-use borrow.Author.Rules.{rules}
-use native.Mathlib.Omega.{arith}
+use Rattle.frame_walk.specs.List.{entries_in}
+use Rattle.call_hearing.specs.Proof.{any_recent}
 use Rattle.call_hearing.proofs.proof.searched.Given as goal
 
 abbrev pub invariant-loop-j : goal.invariant-loop-j

@@ -2,7 +2,6 @@ use mathlib.Core.Path.{◌≡◌}
 use lib.ListN.{length}
 use borrow.Author.Tests.{eq-eqb, ne_eqb}
 use Rattle.frame.specs.Ours.{same_at, fact6}
-use borrow.Author.Rules.{rules}
 use Rattle.frame.proofs.ours.name_ours.Goals as goal
 
 pub returns-then-same_at : goal.returns-then-same_at

@@ -1,9 +1,5 @@
-use mathlib.Core.Path.{◌≡◌, sym, ◌∙◌}
-use Prim.Native.Nat.{◌+◌, ◌-◌, ◌≤◌}
-use lib.ListN.{length, drop}
-use Rattle.frame.specs.Ours.{same_at}
+use mathlib.Core.Path.{sym, ◌∙◌}
 use Rattle.frame.proofs.Laws.{same_next, same_not, same_end}
-use borrow.Author.Rules.{rules}
 use native.Mathlib.Omega.{arith}
 use Rattle.frame.proofs.ours.same_at.Goals as goal
 

@@ -1,10 +1,7 @@
-use mathlib.Core.Path.{◌≡◌, sym, ◌∙◌}
+use mathlib.Core.Path.{◌≡◌}
 use Prim.Native.Nat.{◌+◌, ◌-◌, ◌≤◌}
 use lib.ListN.{length, drop}
 use Rattle.frame.specs.Ours.{same_at}
-use Rattle.frame.proofs.Laws.{same_next, same_not, same_end}
-use borrow.Author.Rules.{rules}
-use native.Mathlib.Omega.{arith}
 use Rattle.frame.proofs.ours.same_at.Given as goal
 
 abbrev pub invariant-loop-i : goal.invariant-loop-i

@@ -1,6 +1,5 @@
 use Rattle.frame_reader.specs.Reader.{start_of}
 use mathlib.Core.Path.{sym}
-use borrow.Author.Rules.{rules}
 use Rattle.frame_reader.proofs.step.start.Goals as goal
 
 pub returns-in-Read : goal.returns-in-Read

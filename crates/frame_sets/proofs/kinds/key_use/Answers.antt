@@ -1,5 +1,4 @@
 use Rattle.frame_sets.specs.Kinds.{key_use_at}
-use borrow.Author.Rules.{rules}
 use Rattle.frame_sets.proofs.kinds.key_use.Goals as goal
 
 pub returns : goal.returns

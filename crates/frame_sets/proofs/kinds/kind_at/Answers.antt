@@ -1,6 +1,5 @@
 use borrow.Author.Tests.{ne_eqb}
 use Rattle.frame_sets.specs.Kinds.{kind_at}
-use borrow.Author.Rules.{rules}
 use Rattle.frame_sets.proofs.kinds.kind_at.Goals as goal
 
 pub returns-in-1 : goal.returns-in-1

@@ -1,6 +1,5 @@
 use borrow.Author.Tests.{le-leb, lt-leb}
 use Rattle.frame_sets.specs.Kinds.{sak_in}
-use borrow.Author.Rules.{rules}
 use Rattle.frame_sets.proofs.kinds.sak_at.Goals as goal
 
 pub returns-then-frame-at : goal.returns-then-frame-at

@@ -4,7 +4,6 @@ use Rattle.frame_sets.specs.Kinds.{sak_at}
 use borrow.Author.Tests.{ne_eqb}
 use Rattle.base_packed.specs.Sak.{sak_flags_of}
 use lib.ListN.{get_or}
-use borrow.Author.Rules.{rules}
 use Rattle.frame_sets.proofs.kinds.sak_header.Goals as goal
 
 pub returns-then-len-eq28 : goal.returns-then-len-eq28

@@ -4,7 +4,6 @@ use Rattle.frame_sets.specs.Kinds.{key_use_at, sak_use_at}
 use Rattle.base_packed.specs.declared.used.Used.{Used}
 use Rattle.base_packed.specs.Used.{used_of}
 use lib.ListN.{get_or}
-use borrow.Author.Rules.{rules}
 use Rattle.frame_sets.proofs.kinds.sak_use.Goals as goal
 
 pub returns : goal.returns

@@ -1,14 +1,13 @@
-use Prim.Native.Nat.{◌+◌, ◌-◌, ◌/◌, ◌≤◌, ◌<◌}
-use mathlib.Core.Path.{◌≡◌, sym, ap, ◌∙◌}
-use lib.ListN.{length, drop}
+use Prim.Native.Nat.{◌+◌, ◌/◌, ◌≤◌, ◌<◌}
+use mathlib.Core.Path.{sym, ap, ◌∙◌}
+use lib.ListN.{length}
 use lib.Seq.{drop-nil}
 use borrow.Author.Tests.{lt-ltb, le-ltb}
 use Rattle.base_mi.specs.Mi.{mi_same}
 use Rattle.base_mi.specs.declared.entry.Entry.{Entry}
-use Rattle.frame_walk.specs.List.{entries_from, list_at, entries_in, seek_entry, found_in}
+use Rattle.frame_walk.specs.List.{list_at, entries_in, found_in}
 use Rattle.frame_walk.specs.declared.list.Found.TheVariants.{At}
 use Rattle.frame_walk.proofs.Lists.{seek_hit, seek-miss, seek-end}
-use borrow.Author.Rules.{rules}
 use native.Mathlib.Omega.{arith}
 use Rattle.frame_walk.proofs.list.find.Goals as goal
 

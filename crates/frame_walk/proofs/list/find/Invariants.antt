@@ -1,15 +1,7 @@
-use Prim.Native.Nat.{◌+◌, ◌-◌, ◌/◌, ◌≤◌, ◌<◌}
-use mathlib.Core.Path.{◌≡◌, sym, ap, ◌∙◌}
-use lib.ListN.{length, drop}
-use lib.Seq.{drop-nil}
-use borrow.Author.Tests.{lt-ltb, le-ltb}
-use Rattle.base_mi.specs.Mi.{mi_same}
-use Rattle.base_mi.specs.declared.entry.Entry.{Entry}
-use Rattle.frame_walk.specs.List.{entries_from, list_at, entries_in, seek_entry, found_in}
-use Rattle.frame_walk.specs.declared.list.Found.TheVariants.{At}
-use Rattle.frame_walk.proofs.Lists.{seek_hit, seek-miss, seek-end}
-use borrow.Author.Rules.{rules}
-use native.Mathlib.Omega.{arith}
+use Prim.Native.Nat.{◌+◌, ◌-◌}
+use mathlib.Core.Path.{◌≡◌}
+use lib.ListN.{drop}
+use Rattle.frame_walk.specs.List.{entries_from, seek_entry}
 use Rattle.frame_walk.proofs.list.find.Given as goal
 
 abbrev pub invariant-loop-i : goal.invariant-loop-i

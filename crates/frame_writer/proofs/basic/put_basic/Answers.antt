@@ -2,7 +2,7 @@ use Prim.Native.Nat.{ℕ, min}
 use mathlib.Core.Path.{◌≡◌, ap, sym, ◌∙◌}
 use native.Mathlib.Omega.{arith}
 use lib.Seq.{sets}
-use lib.ListN.{length, take, length-take}
+use lib.ListN.{length, take}
 use borrow.Author.Rules.{rules}
 use Rattle.base_octets.proofs.Stores.{sets-two}
 use Rattle.frame_writer.proofs.Laws.{length-ckn_of, length-basic, length-fixed}

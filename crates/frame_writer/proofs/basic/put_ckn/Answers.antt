@@ -1,7 +1,6 @@
 use Prim.Native.Nat.{◌-◌}
 use mathlib.Core.Path.{refl}
 use lib.ListN.{length, replicate}
-use borrow.Author.Rules.{rules}
 use Rattle.base_facts.specs.Facts.{padded_of}
 use Rattle.base_octets.proofs.Stores.{sets-two}
 use Rattle.frame_writer.specs.Frame.{ckn_octets}

@@ -3,7 +3,6 @@ use mathlib.Core.List.{List, ◌++◌}
 use mathlib.Core.Path.{◌≡◌, ap, ap₂, ◌∙◌}
 use lib.ListN.{set}
 use lib.Seq.{sets}
-use borrow.Author.Rules.{rules}
 use Rattle.base_facts.specs.Numbers.{agility}
 use Rattle.base_packed.specs.Basic.{octet_of}
 use Rattle.base_octets.specs.Number.{be_of}

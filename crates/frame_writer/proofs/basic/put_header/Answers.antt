@@ -3,7 +3,6 @@ use mathlib.Core.List.{List}
 use mathlib.Core.Path.{ap, ◌∙◌}
 use lib.Seq.{sets}
 use lib.ListN.{set}
-use borrow.Author.Rules.{rules}
 use Rattle.base_octets.specs.Number.{be_of}
 use Rattle.frame_writer.specs.Frame.{header_octets}
 use Rattle.frame_writer.proofs.basic.put_header.Goals as goal

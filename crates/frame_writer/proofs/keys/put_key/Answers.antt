@@ -1,4 +1,3 @@
-use borrow.Author.Rules.{rules}
 use Rattle.base_octets.specs.Number.{be_of}
 use Rattle.base_mi.specs.Mi.{mi_octets}
 use Rattle.base_octets.proofs.Laws.{length-be_of}

@@ -9,7 +9,7 @@ use Rattle.base_packed.specs.Sak.{sak_octet}
 use Rattle.base_octets.specs.Number.{be_of}
 use Rattle.base_octets.proofs.Laws.{length-be_of}
 use Rattle.base_octets.proofs.Stores.{sets-three}
-use Rattle.frame_writer.proofs.Laws.{no_part, some-part, length-sak}
+use Rattle.frame_writer.proofs.Laws.{some-part, length-sak}
 use Rattle.frame_writer.specs.Frame.{set_header, sak_set}
 use Rattle.frame_writer.proofs.keys.put_sak.Goals as goal
 

@@ -4,12 +4,11 @@ use mathlib.Core.Path.{ap₂, sym, ◌≡◌, ap, ◌∙◌, refl}
 use native.Mathlib.Omega.{arith}
 use lib.ListN.{length}
 use lib.Seq.{sets}
-use borrow.Author.Rules.{rules}
 use Rattle.base_packed.specs.Used.{used_octet}
 use Rattle.base_packed.specs.declared.used.KeyFlags.{KeyFlags}
 use Rattle.frame_writer.specs.Frame.{use_flags, use_octets, set_header, use_set}
 use Rattle.base_octets.proofs.Stores.{sets-three}
-use Rattle.frame_writer.proofs.Laws.{no_part, some-part, length-key, length-use}
+use Rattle.frame_writer.proofs.Laws.{some-part, length-key, length-use}
 use Rattle.frame_writer.proofs.keys.put_use.Goals as goal
 
 pub returns : goal.returns

@@ -1,9 +1,8 @@
-use Prim.Native.Nat.{◌+◌, ◌-◌, ◌*◌, ◌≤◌}
+use Prim.Native.Nat.{◌+◌, ◌*◌, ◌≤◌}
 use mathlib.Core.List.{List}
-use mathlib.Core.Path.{◌≡◌, refl, sym, ap, ◌∙◌}
-use native.Mathlib.Nat.{add-zero}
+use mathlib.Core.Path.{◌≡◌, sym, ap, ◌∙◌}
 use native.Mathlib.Omega.{arith}
-use lib.ListN.{length, drop, take, drop_of_length-le, length-take}
+use lib.ListN.{length, take, drop_of_length-le, length-take}
 use lib.Seq.{sets}
 use borrow.Author.Rules.{rules}
 use Rattle.base_mi.specs.declared.entry.Entry.{Entry}

@@ -1,6 +1,5 @@
 use Rattle.page.specs.Text.{ended_of}
 use borrow.Author.Tests.{lt-ltb, le-ltb}
-use borrow.Author.Rules.{rules}
 use Rattle.page.proofs.line.ended.Goals as goal
 
 pub returns-then-at-ge-ROOM : goal.returns-then-at-ge-ROOM

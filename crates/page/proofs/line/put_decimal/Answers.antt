@@ -1,8 +1,5 @@
-use mathlib.Core.Path.{ap, ◌∙◌}
-use native.Mathlib.Omega.{arith}
-use lib.ListN.{length}
-use borrow.Author.Rules.{rules}
-use Rattle.page.proofs.Laws.{decimal-digits, decimal-le}
+use mathlib.Core.Path.{◌∙◌}
+use Rattle.page.proofs.Laws.{decimal-digits}
 use Rattle.page.proofs.line.put_decimal.Goals as goal
 
 pub returns : goal.returns

@@ -1,7 +1,5 @@
 use Prim.Native.Nat.{ℕ}
 use mathlib.Core.Path.{ap, ◌∙◌}
-use native.Mathlib.Omega.{arith}
-use borrow.Author.Rules.{rules}
 use Rattle.io.specs.Digits.{last_digits}
 use Rattle.page.proofs.Laws.{length_digits, hex-digits}
 use Rattle.page.proofs.line.put_hex.Goals as goal

@@ -1,5 +1,3 @@
-use native.Mathlib.Omega.{arith}
-use borrow.Author.Rules.{rules}
 use Rattle.io.specs.Digits.{last_digits}
 use Rattle.page.specs.Text.{hex_of}
 use Rattle.page.proofs.Stores.{stored-two}

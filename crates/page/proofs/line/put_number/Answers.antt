@@ -1,4 +1,3 @@
-use borrow.Author.Rules.{rules}
 use Rattle.page.specs.Text.{decimal_of}
 use Rattle.page.proofs.Stores.{stored-two}
 use Rattle.page.proofs.line.put_number.Goals as goal

@@ -5,7 +5,6 @@ use native.Mathlib.Nat.{zero-add}
 use mathlib.Core.List.{◌++◌}
 use mathlib.Core.Path.{◌∙◌}
 use native.Mathlib.Omega.{arith}
-use borrow.Author.Rules.{rules}
 use Rattle.page.proofs.line.refused.Goals as goal
 
 pub put_words-len-requires : goal.put_words-len-requires

@@ -1,5 +1,4 @@
 use Rattle.participant.specs.Call.{aged_to}
-use borrow.Author.Rules.{rules}
 use Rattle.participant.proofs.call.aged_to.Goals as goal
 
 pub returns : goal.returns

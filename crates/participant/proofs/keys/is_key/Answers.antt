@@ -1,6 +1,5 @@
 use mathlib.Core.Path.{sym, ◌∙◌}
 use Rattle.participant.specs.Keys.{is_key}
-use borrow.Author.Rules.{rules}
 use Rattle.participant.proofs.keys.is_key.Goals as goal
 
 pub returns-then-of_member : goal.returns-then-of_member

@@ -1,6 +1,5 @@
 use mathlib.Core.Path.{◌∙◌}
 use Rattle.participant.specs.Keys.{of_member}
-use borrow.Author.Rules.{rules}
 use Rattle.participant.proofs.keys.of_member.Goals as goal
 
 pub returns-then-s : goal.returns-then-s

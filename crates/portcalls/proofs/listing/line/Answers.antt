@@ -1,4 +1,4 @@
-use Rattle.std.proofs.Common.{◌≡◌, ◌+◌, ◌-◌, ◌^◌, ◌<◌, length, sym, ◌∙◌, arith, rules}
+use Rattle.std.proofs.Common.{◌+◌, ◌^◌, ◌<◌, length, sym, ◌∙◌, arith}
 use Rattle.frame_rules.proofs.Laws as extents
 use Rattle.frame_sets.proofs.Laws as rules
 use Rattle.portcalls.proofs.listing.line.Goals as goal

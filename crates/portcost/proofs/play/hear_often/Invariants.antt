@@ -1,4 +1,4 @@
-use Rattle.std.proofs.Common.{◌-◌, ◌≤◌, rules}
+use Rattle.std.proofs.Common.{◌-◌, ◌≤◌}
 use Rattle.portcost.proofs.play.hear_often.Given as goal
 
 abbrev pub invariant-loop-i : goal.invariant-loop-i

@@ -11,7 +11,7 @@ use Rattle.participant.specs.Keys.{with_key, without_keys}
 use Rattle.participant.specs.Record.{set_latest, set_old}
 use Rattle.participant.specs.declared.Participant.{Participant}
 use Rattle.call_standing.specs.Standing.{server_of}
-use Rattle.law_lists.specs.Laws.{by_cases}
+use Rattle.law_lists.proofs.Laws.{by_cases}
 use Rattle.call_hearing.specs.declared.keys.Taken.{Taken}
 use Rattle.call_hearing.specs.Keys.{Keyed, is_peer, is_server, known_by, is_known, keyed_of, taken_of}
 

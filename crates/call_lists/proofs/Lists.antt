@@ -7,7 +7,7 @@ use native.Mathlib.Omega.{arith}
 use lib.ListN.{length, take, get_or, set, length-append}
 use lib.Seq.{sets}
 use Rattle.law_lists.specs.Lists.{those}
-use Rattle.law_lists.specs.Laws.{those-kept, those-gone, map-append}
+use Rattle.law_lists.proofs.Laws.{those-kept, those-gone, map-append}
 use Rattle.base_octets.specs.Run.{runs_of}
 use Rattle.base_octets.proofs.Laws.{sets-set}
 use Rattle.base_octets.proofs.Stores.{sets-on}

@@ -15,7 +15,7 @@ use Rattle.table_counts.specs.Counts.{live_count}
 use Rattle.table_election.specs.declared.Rank.{Rank}
 use Rattle.table_election.specs.declared.Election.{Election}
 use Rattle.table_election.specs.Stand.{stand_of}
-use Rattle.law_lists.specs.Laws.{by_cases, never}
+use Rattle.law_lists.proofs.Laws.{by_cases, never}
 use Rattle.frame_writer.specs.Frame.{wrote_of}
 use Rattle.frame_writer.specs.declared.Sender.{Sender}
 use Rattle.frame_writer.specs.declared.Sak.{Sak}

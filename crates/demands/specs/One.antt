@@ -14,7 +14,7 @@ use Rattle.law_history.specs.Calls.{Creation, created, Call, receives, sends, di
 use Rattle.law_history.specs.Steps.{facts}
 use Rattle.law_history.specs.Refusals.{refusal_in, lent, left_in}
 use Rattle.law_history.specs.RefusalsArgument as refusals
-use Rattle.law_reached.specs.AloneArgument as alone
+use Rattle.law_reached.proofs.AloneArgument as alone
 
 -- the numbers of a call's facts, in their order
 abbrev numbers : Participant → Call → List ℕ

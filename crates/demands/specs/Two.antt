@@ -26,15 +26,15 @@ use Rattle.image.specs.Image.{image_of}
 use Rattle.image_reading.specs.Read.{read_of}
 use Rattle.law_round.specs.Ranged.{Ranged}
 use Rattle.law_round.specs.RoundTrip as frame
-use Rattle.law_round.specs.RoundTripArgument.{round_trip}
+use Rattle.law_round.proofs.RoundTripArgument.{round_trip}
 use Rattle.law_calls.specs.KeyRecord.{NotUsed, EmptyDrops, KnownIgnored, NewEntered}
 use Rattle.law_calls.specs.KeyRecordArgument as keys
 use Rattle.law_saved.specs.SavedArgument as image
 use Rattle.law_history.specs.Calls.{Creation, created, Call, sends, saves, to_save, answer_of, after, Made}
 use Rattle.law_reached.specs.Carried.{Given, AllCarried}
 use Rattle.law_reached.specs.Sends as sent
-use Rattle.law_reached.specs.SendsArgument.{reached-sends}
-use Rattle.law_reached.specs.SavedArgument.{saved-reads-back}
+use Rattle.law_reached.proofs.SendsArgument.{reached-sends}
+use Rattle.law_reached.proofs.SavedArgument.{saved-reads-back}
 
 pub record Two : Type 0 where
   -- "Reading and writing MKPDUs": what is written is read again, of any value in range and whatever follows the frame

@@ -6,7 +6,7 @@ use mathlib.Core.Logic.{◌⊎◌, inl, inr}
 use native.Mathlib.Omega.{arith}
 use lib.Dec.{eqb, leb}
 use borrow.Author.Tests.{ne_eqb, eqb-true, leb-true, le-leb, lt-leb}
-use Rattle.law_lists.specs.Laws.{by_cases, or-none, or-true, or-with}
+use Rattle.law_lists.proofs.Laws.{by_cases, or-none, or-true, or-with}
 use Rattle.base_facts.specs.Facts.{padded_of}
 use Rattle.frame_rules.specs.Rules.{extent_of, fits, unnumbered, allowed_others, bad_shape, bad_body}
 use Rattle.frame_places.specs.Once.{holds}

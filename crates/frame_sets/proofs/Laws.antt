@@ -9,7 +9,7 @@ use lib.Dec.{eqb, ltb}
 use borrow.Author.Tests.{ne_eqb, eqb-true, ltb-false, not-false}
 use Rattle.base_octets.specs.Number.{be_at}
 use Rattle.base_octets.specs.Octets.{Octets}
-use Rattle.law_lists.specs.Laws.{or-false, or-none, or_swap}
+use Rattle.law_lists.proofs.Laws.{or-false, or-none, or_swap}
 use Rattle.frame_rules.proofs.Laws.{extent-least, fits-room}
 use Rattle.frame_sets.specs.Kinds.{kind_at, type_of}
 use Rattle.frame_sets.specs.Set.{len_at, bad_set, set_fields, set_answer, set_of, bad_head, head_of, bad_list}

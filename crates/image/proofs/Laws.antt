@@ -9,7 +9,7 @@ use Rattle.base_octets.proofs.Stores.{sets-on, length_runs}
 use Rattle.base_packed.specs.Bit.{bit}
 use Rattle.table.specs.Table.{entries}
 use Rattle.table.specs.declared.Table.{Table}
-use Rattle.law_lists.specs.Laws.{by_cases}
+use Rattle.law_lists.proofs.Laws.{by_cases}
 use Rattle.participant.specs.declared.Slot.{Slot}
 use Rattle.participant.specs.declared.Participant.{Participant}
 use Rattle.image_layout.specs.Layout.{contents_entries, bodies, laid_of}

@@ -13,7 +13,7 @@ use Rattle.base_packed.proofs.Laws.{or-low}
 use Rattle.law_lists.specs.Lists.{pad}
 use Rattle.table.specs.Table.{blank_peer}
 use Rattle.table.specs.declared.Peer.{Peer}
-use Rattle.law_lists.specs.Laws.{pad-snoc}
+use Rattle.law_lists.proofs.Laws.{pad-snoc}
 use Rattle.image_peer.specs.Peer.{peer_octets, peer_at, peer_clean, peers_at, peers_clean}
 
 pub length-peer : (p : Peer) → length (peer_octets p) ≡ 44

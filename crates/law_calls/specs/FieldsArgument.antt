@@ -1,7 +1,7 @@
 -- Why: by the definition of each call, a refusal leaving all.
 use Rattle.std.specs.Prelude.{ℕ, ◌≡◌, refl, Bool, true, List, [], ◌∷◌, length}
 use Rattle.std.proofs.Common.{ap, sym, ◌∙◌, arith}
-use Rattle.law_lists.specs.Laws.{by_cases}
+use Rattle.law_lists.proofs.Laws.{by_cases}
 use Rattle.participant.specs.declared.Participant.{Participant}
 use Rattle.participant.specs.declared.call.Called.{Called}
 use Rattle.participant.specs.Record.{first24, set_mi, set_mn, set_mark, set_clock, set_sent, set_kn, set_distributed, set_wrapped, set_table, set_latest, set_old}

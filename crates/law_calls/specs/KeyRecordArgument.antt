@@ -6,7 +6,7 @@ use Rattle.base_mi.specs.declared.Mi.{Mi}
 use Rattle.frame_places.specs.declared.Spot.{Spot}
 use Rattle.participant.specs.declared.Participant.{Participant}
 use Rattle.call_hearing.specs.Keys.{keyed_of}
-use Rattle.law_lists.specs.Laws.{by_cases}
+use Rattle.law_lists.proofs.Laws.{by_cases}
 use Rattle.law_calls.specs.KeyRecord.{NotUsed, EmptyDrops, KnownIgnored, NewEntered}
 
 module _ (p : Participant) (frame : List ℕ) (m : Mi) (sak : Spot) where

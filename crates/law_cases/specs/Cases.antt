@@ -136,15 +136,3 @@ others = cases1 ++ (cases2 ++ (cases4 ++ (cases5 ++ (cases6 ++ cases7))))
 
 abbrev pub bench : List Row
 bench = others ++ (shown_cases ++ (cases3 ++ cases8))
-
-others-right : Right others
-unfolding created created_of fresh empty_participant no_slot empty_table be_at be_of written mi_octets basic_fields basic_of mi_at live_list potential_list live_count elected
-    header_octets fixed_octets ckn_octets basic_octets list_set list_octets body_octets frame_of server_of elected_self aged_to expired of_member key_use_of
-    server_flag hands_out sender_of sak_of message_of frame_at send_facts sent_at sent_of left_by same_at fact6 holds places_with len_at list_len bad_body bad_shape
-    bad_head bad_set extent_of entry_at entries_from list_at entries_in walk_go walk_from walk_of held_in updated replaced entered_at pushed frame_facts keyed_of
-    is_recent named_in proves_in heard_of admitted table_facts receive_facts updated_by accepted_by received_of ticked contents_head contents_entry
-    contents_entries bodies laid_of named_octets times_octets kept_octets own_octets peers_octets own_part peers_part keys_part image_of
-others-right = refl
-
-pub all-cases : Right bench
-all-cases = both others (shown_cases ++ (cases3 ++ cases8)) others-right (both shown_cases (cases3 ++ cases8) shown_cases-right (both cases3 cases8 cases3-right cases8-right))

@@ -8,7 +8,7 @@ use Rattle.frame_sets.specs.Kinds.{sak_in}
 use Rattle.frame_places.specs.declared.Spot.{Spot}
 use Rattle.table_expiry.specs.Expiry.{expired}
 use Rattle.table_enter.specs.Enter.{entered}
-use Rattle.law_lists.specs.Laws.{by_cases}
+use Rattle.law_lists.proofs.Laws.{by_cases}
 use Rattle.participant.specs.Call.{aged_to}
 use Rattle.participant.specs.Record.{set_latest, set_old}
 use Rattle.call_new_mi.specs.Renew.{renewed}

@@ -3,7 +3,7 @@ use Rattle.std.specs.Prelude.{ℕ, ◌≤◌, ◌≡◌, refl, true, List, [], �
 use Rattle.std.proofs.Math.Path.{ap}
 use Rattle.std.proofs.Common.{◌∙◌, inl, inr, arith}
 use Rattle.std.proofs.Math.Option.{Option, none, some}
-use Rattle.law_lists.specs.Laws.{by_cases}
+use Rattle.law_lists.proofs.Laws.{by_cases}
 use Rattle.call_creation.specs.Create.{fresh}
 use Rattle.participant.specs.declared.Participant.{Participant}
 use Rattle.participant.specs.declared.call.Answer.TheVariants.{Done}

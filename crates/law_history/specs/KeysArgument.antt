@@ -12,7 +12,7 @@ use Rattle.table_expiry.proofs.Rules.{kept-rules}
 use Rattle.table_lookup.specs.Look.{held_in, live_for}
 use Rattle.table_election.specs.declared.Server.{Server}
 use Rattle.table_election.specs.declared.Server.TheVariants.{Nobody, Ourselves, Elected}
-use Rattle.law_lists.specs.Laws.{by_cases, clash, first-of}
+use Rattle.law_lists.proofs.Laws.{by_cases, clash, first-of}
 use Rattle.law_kept.specs.Same.{same-eq}
 use Rattle.table_election.proofs.Least.{elected-live}
 use Rattle.call_standing.specs.Standing.{own_rank, server_of, elected_self, pause_over, fresh_due}

@@ -7,7 +7,7 @@ use Rattle.base_mi.specs.Mi.{mi_same}
 use Rattle.base_mi.specs.declared.Mi.{Mi}
 use Rattle.table_expiry.specs.Expiry.{life_time, fresh_at}
 use Rattle.law_kept.specs.Proved.{aged_proof, is_some}
-use Rattle.law_lists.specs.Laws.{by_cases, never, clash, both, first-of, second-of}
+use Rattle.law_lists.proofs.Laws.{by_cases, never, clash, both, first-of, second-of}
 use Rattle.law_kept.specs.Same.{same-eq, same_refl}
 use Rattle.participant.specs.declared.call.Answer.TheVariants.{Done}
 use Rattle.call_judge.specs.Judge.{basic_in}

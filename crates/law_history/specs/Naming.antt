@@ -8,7 +8,7 @@ use Rattle.base_mi.specs.Mi.{mi_same}
 use Rattle.base_mi.specs.declared.Mi.{Mi}
 use Rattle.base_mi.specs.declared.entry.Entry.{Entry}
 use Rattle.frame_walk.specs.List.{entries_in}
-use Rattle.law_lists.specs.Laws.{by_cases, clash, first-of, second-of}
+use Rattle.law_lists.proofs.Laws.{by_cases, clash, first-of, second-of}
 use Rattle.law_kept.specs.Same.{same-eq, same_refl}
 use Rattle.participant.specs.declared.Participant.{Participant}
 use Rattle.call_judge.specs.Judge.{walk_in, places_in}

@@ -10,11 +10,11 @@ use Rattle.law_kept.specs.Proved.{proved_at, aged_proof, is_some}
 use Rattle.table_lookup.specs.Look.{held_in, live_for}
 use Rattle.table_enter.specs.Enter.{entered}
 use Rattle.table.specs.Table.{empty_table}
-use Rattle.law_lists.specs.Laws.{by_cases}
+use Rattle.law_lists.proofs.Laws.{by_cases}
 use Rattle.law_kept.specs.Same.{same-eq}
 use Rattle.table_expiry.proofs.Rules.{kept-rules}
 use Rattle.table_expiry.proofs.Aging.{whole-tidy, fresh-now, tidy-expired}
-use Rattle.law_kept.specs.Proving.{live-proved, proof-later, proved-expired, proved-own, proved-other}
+use Rattle.law_kept.proofs.Proving.{live-proved, proof-later, proved-expired, proved-own, proved-other}
 use Rattle.participant.specs.Call.{aged_to}
 use Rattle.call_new_mi.specs.Renew.{renewed}
 use Rattle.call_distribute.specs.Distribute.{with_fresh}

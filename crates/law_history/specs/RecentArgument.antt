@@ -5,7 +5,7 @@ use mathlib.Core.List.Memᴰ
 use mathlib.Core.List.{List, [], ◌∷◌, Memᴰ}
 use Rattle.std.proofs.Math.Dec.{ltb}
 use borrow.Author.Tests.{not-true, eqb-true, eqb-false, ne_eqb, leb-true, le-leb, ltb-true, lt-ltb}
-use Rattle.law_lists.specs.Laws.{by_cases, first-of, second-of}
+use Rattle.law_lists.proofs.Laws.{by_cases, first-of, second-of}
 use Rattle.participant.specs.declared.Participant.{Participant}
 use Rattle.participant.specs.First.{NoneHolds}
 use Rattle.law_calls.specs.FieldsArgument.{create-empty}

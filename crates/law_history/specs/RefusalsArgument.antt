@@ -6,7 +6,7 @@ use Rattle.std.proofs.Math.Option.{Option, none, some}
 use Rattle.std.proofs.lemmas.Bool.{eqb-false, not-true}
 use Rattle.base_facts.specs.Facts.{first_of}
 use Rattle.base_octets.specs.Run.{written}
-use Rattle.law_lists.specs.Laws.{by_cases, never, clash, first-of, second-of}
+use Rattle.law_lists.proofs.Laws.{by_cases, never, clash, first-of, second-of}
 use Rattle.call_tick.specs.Tick.{ticked}
 use Rattle.participant.specs.declared.Participant.{Participant}
 use Rattle.participant.specs.First.{NoneHolds, numbered, First}

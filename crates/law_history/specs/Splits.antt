@@ -9,7 +9,7 @@ use Rattle.participant.specs.declared.call.Called.{Called}
 use Rattle.participant.specs.declared.call.Answer.TheVariants.{Done}
 use Rattle.participant.proofs.Settle.{on-done}
 use Rattle.law_calls.specs.Settled.{create-settles}
-use Rattle.law_lists.specs.Laws.{by_cases, never, clash}
+use Rattle.law_lists.proofs.Laws.{by_cases, never, clash}
 use Rattle.law_history.specs.Calls.{Creation, created, Call, receives, sends, distributes, ticks, renews, reports, asks, saves, answered, played, after, accepts, accepted, folded, identifier_after, handed, identifier, keys_distributed, Made, NoneTaken}
 use Rattle.law_history.specs.Steps.{becomes, refused-leaves, accepted-becomes}
 use Rattle.law_history.specs.Becomes.{effect}

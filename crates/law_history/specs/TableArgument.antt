@@ -5,7 +5,7 @@ use mathlib.Core.List.Memᴰ
 use Rattle.table_expiry.specs.Kept.{Kept, absent, distinct}
 use Rattle.table_expiry.specs.Expiry.{expired}
 use Rattle.table.specs.declared.Peer.{Peer}
-use Rattle.law_lists.specs.Laws.{first-of, second-of}
+use Rattle.law_lists.proofs.Laws.{first-of, second-of}
 use Rattle.table_expiry.proofs.Rules.{kept-rules}
 use Rattle.table_expiry.proofs.Aging.{at-most-16, count-tidy}
 use Rattle.law_kept.specs.Apart.{absent-clash}

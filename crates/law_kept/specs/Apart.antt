@@ -12,7 +12,7 @@ use Rattle.table_lookup.specs.declared.Held.TheVariants.{At, Missing}
 use Rattle.table.specs.Table.{entries}
 use Rattle.table_lookup.specs.Look.{seek, held_in}
 use Rattle.table_expiry.specs.Kept.{absent, distinct}
-use Rattle.law_lists.specs.Laws.{by_cases, clash, never, first-of, second-of, every-mem}
+use Rattle.law_lists.proofs.Laws.{by_cases, clash, never, first-of, second-of, every-mem}
 use Rattle.law_kept.specs.Same.{same-eq, same_refl}
 
 -- none of the entries has an absent identifier

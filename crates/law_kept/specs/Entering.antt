@@ -22,7 +22,7 @@ use Rattle.table.specs.Table.{blank_peer, entries, table_of, pushed}
 use Rattle.table_lookup.specs.Look.{seek, held_in, no_room_for}
 use Rattle.table_enter.specs.Enter.{held_peer, replaced, updated, entered_at, entered, enter_list}
 use Rattle.table_expiry.specs.Kept.{Tidy}
-use Rattle.law_lists.specs.Laws.{by_cases, clash, never, pad-snoc}
+use Rattle.law_lists.proofs.Laws.{by_cases, clash, never, pad-snoc}
 use Rattle.law_kept.specs.Same.{same-eq, same_refl}
 use Rattle.table_expiry.proofs.Aging.{whole-tidy}
 

@@ -13,7 +13,7 @@ use Rattle.table.specs.Table.{blank_peer, entries, pushed}
 use Rattle.table_lookup.specs.Look.{seek, held_in, first_at, found_at, no_room_for}
 use Rattle.table_enter.specs.Enter.{held_peer, updated, replaced, entered_at, place_for, grown_by}
 use Rattle.table_expiry.proofs.Aging.{at-most-16}
-use Rattle.law_lists.specs.Laws.{by_cases, loop-next, drop-end}
+use Rattle.law_lists.proofs.Laws.{by_cases, loop-next, drop-end}
 
 -- what has been found so far, where the entries of `left` from i on are left: `p` is the entry at `at`
 abbrev pub sought : Mi → ℕ → ℕ → ℕ → Peer → List Peer → Held

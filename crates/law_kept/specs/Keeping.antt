@@ -18,7 +18,7 @@ use Rattle.table_expiry.specs.Expiry.{fresh_at, fresh_peer, lapsed, unproven, ag
 use Rattle.table_lookup.specs.Look.{held_in, stale_for, no_room_for}
 use Rattle.table_enter.specs.Enter.{updated, enter_list, entered}
 use Rattle.table_expiry.specs.Kept.{unproven_zero, timely, fresh_proof, ordered, absent, distinct, has_number, peer_rules, Kept}
-use Rattle.law_lists.specs.Laws.{by_cases, clash, both, first-of, second-of}
+use Rattle.law_lists.proofs.Laws.{by_cases, clash, both, first-of, second-of}
 use Rattle.law_kept.specs.Same.{same-eq, same-sym}
 use Rattle.table_expiry.proofs.Rules.{together, kept-rules}
 use Rattle.table_expiry.proofs.Aging.{whole-tidy, fresh-now, aged-same, entries-expired, tidy-expired, expired-still}

@@ -3,5 +3,4 @@ pub mod Same
 pub mod Entering
 pub mod Keeping
 pub mod Apart
-pub mod Proving
 pub mod InPlace

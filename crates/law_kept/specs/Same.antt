@@ -3,7 +3,7 @@ use Rattle.std.specs.Prelude.{◌≡◌, refl, true, false, eqb}
 use Rattle.std.proofs.Common.{ap, sym, ◌∙◌, eqb-true, eq-eqb}
 use Rattle.base_mi.specs.declared.Mi.{Mi}
 use Rattle.base_mi.specs.Mi.{mi_same}
-use Rattle.law_lists.specs.Laws.{by_cases, clash, first-of, second-of}
+use Rattle.law_lists.proofs.Laws.{by_cases, clash, first-of, second-of}
 
 pub same-eq : (a b : Mi) → mi_same a b ≡ true → a ≡ b
 same-eq a b e =

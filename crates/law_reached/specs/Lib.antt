@@ -1,14 +1,5 @@
 pub mod Carried
-pub mod Throughout
-pub mod Own
-pub mod Peers
-pub mod Sak
-pub mod Keys
 pub mod Reached
-pub mod ReachedArgument
 pub mod Saved
-pub mod SavedArgument
 pub mod Sends
-pub mod SendsArgument
 pub mod Alone
-pub mod AloneArgument

@@ -8,7 +8,7 @@ use Rattle.base_mi.specs.Mi.{mi_octets}
 use Rattle.base_mi.proofs.Laws.{length-mi, mi-stands}
 use Rattle.base_packed.specs.Bit.{bit}
 use Rattle.base_packed.proofs.Laws.{bit-lt, bit-eqb, eqb-bit}
-use Rattle.law_lists.specs.Laws.{both, first-of, second-of}
+use Rattle.law_lists.proofs.Laws.{both, first-of, second-of}
 use Rattle.image_key.specs.Key.{key_flags, key_octets, key_at, key_clean}
 use Rattle.law_reread.specs.Cut.{glue, octet-cut, mi-cut, after-it}
 use Rattle.law_reread.specs.Key.{KeyStands, KeyBack}

@@ -3,6 +3,5 @@ pub mod Cut
 pub mod Own
 pub mod OwnArgument
 pub mod Peer
-pub mod PeerArgument
 pub mod Key
 pub mod KeyArgument

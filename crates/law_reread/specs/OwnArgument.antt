@@ -10,7 +10,7 @@ use Rattle.base_mi.proofs.Laws.{length-mi, mi-stands}
 use Rattle.base_packed.specs.Bit.{bit}
 use Rattle.base_packed.proofs.Laws.{bit-lt, bit-eqb, eqb-bit}
 use Rattle.table.specs.Table.{empty_table}
-use Rattle.law_lists.specs.Laws.{both, first-of, second-of}
+use Rattle.law_lists.proofs.Laws.{both, first-of, second-of}
 use Rattle.participant.specs.Record.{first32, first24}
 use Rattle.participant.specs.Keys.{no_slot}
 use Rattle.image_own.specs.Own.{named_octets, times_octets, kept_octets, own_octets, own_at, own_clean}

@@ -16,7 +16,7 @@ use Rattle.base_packed.specs.Bit.{bit}
 use Rattle.table.specs.Table.{entries}
 use Rattle.table_expiry.specs.Kept.{only}
 use Rattle.table_expiry.proofs.Aging.{entries-table_of, tidy-table_of}
-use Rattle.law_lists.specs.Laws.{by_cases, first-of, second-of}
+use Rattle.law_lists.proofs.Laws.{by_cases, first-of, second-of}
 use Rattle.participant.specs.Keys.{no_slot}
 use Rattle.participant.specs.declared.Participant.{Participant}
 use Rattle.image_layout.specs.Layout.{records_at, offset_at, laid_of, laid_out, parts_from, parts_in}
@@ -28,7 +28,7 @@ use Rattle.image_peer.proofs.Laws.{length-peers_at}
 use Rattle.law_reread.specs.Fit.{FitPeer, FitPeers, FitKey, FitOwn}
 use Rattle.law_reread.specs.Cut.{cut, glue}
 use Rattle.law_reread.specs.OwnArgument.{own_back}
-use Rattle.law_reread.specs.PeerArgument.{peers-back}
+use Rattle.law_reread.proofs.PeerArgument.{peers-back}
 use Rattle.law_reread.specs.KeyArgument.{key_back}
 use Rattle.image_rules.specs.Rules.{rules}
 use Rattle.law_saved.specs.WellFormed.{TidySlot, WellFormed}

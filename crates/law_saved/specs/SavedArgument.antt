@@ -2,7 +2,7 @@
 use Rattle.std.specs.Prelude.{ℕ, ◌≡◌, List, true, false}
 use Rattle.std.proofs.Common.{ap, sym, ◌∙◌}
 use Rattle.base_octets.specs.Octets.{Octets}
-use Rattle.law_lists.specs.Laws.{by_cases, never}
+use Rattle.law_lists.proofs.Laws.{by_cases, never}
 use Rattle.participant.specs.Call.{done_of, refused_of}
 use Rattle.call_creation.specs.Create.{empty_participant}
 use Rattle.participant.specs.declared.Participant.{Participant}

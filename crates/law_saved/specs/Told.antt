@@ -9,7 +9,7 @@ use Rattle.base_packed.proofs.Laws.{bit-lt}
 use Rattle.law_lists.specs.Lists.{every}
 use Rattle.table.specs.Table.{entries, table_of}
 use Rattle.table.specs.declared.Peer.{Peer}
-use Rattle.law_lists.specs.Laws.{by_cases, both, first-of, second-of, clash}
+use Rattle.law_lists.proofs.Laws.{by_cases, both, first-of, second-of, clash}
 use Rattle.participant.specs.Record.{set_table, set_latest, set_old}
 use Rattle.participant.specs.Call.{done_of}
 use Rattle.participant.specs.declared.Slot.{Slot}
@@ -24,7 +24,7 @@ use Rattle.law_reread.specs.Fit.{FitKey}
 use Rattle.law_reread.specs.Own.{alone}
 use Rattle.law_reread.specs.OwnArgument.{own-stands}
 use Rattle.law_reread.specs.Peer.{AllTold}
-use Rattle.law_reread.specs.PeerArgument.{peers-stand}
+use Rattle.law_reread.proofs.PeerArgument.{peers-stand}
 use Rattle.law_reread.specs.KeyArgument.{key-stands}
 use Rattle.table_expiry.specs.Kept.{only}
 use Rattle.image_rules.specs.Rules.{in_ranges, two_bits, rules}

@@ -1,4 +1,2 @@
 pub mod Sendable
-pub mod Ranged
 pub mod Sent
-pub mod SentArgument

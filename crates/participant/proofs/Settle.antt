@@ -8,7 +8,7 @@ use native.Mathlib.Omega.{arith}
 use lib.Dec.{eqb}
 use borrow.Author.Tests.{eq-eqb, ne_eqb, eqb-true, eqb-false, ltb-false, not-true}
 use Rattle.base_facts.specs.Facts.{first_of}
-use Rattle.law_lists.specs.Laws.{by_cases, never, clash, first-of, second-of}
+use Rattle.law_lists.proofs.Laws.{by_cases, never, clash, first-of, second-of}
 use Rattle.participant.specs.First.{NoneHolds, numbered, First}
 use Rattle.participant.specs.declared.Participant.{Participant}
 use Rattle.participant.specs.declared.call.Called.{Called}

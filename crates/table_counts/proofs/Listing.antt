@@ -13,7 +13,7 @@ use Rattle.law_lists.specs.Lists.{those}
 use Rattle.table.specs.Table.{entries}
 use Rattle.table_lookup.specs.Look.{is_live, is_potential}
 use Rattle.table_counts.specs.Counts.{entry_of, blank_entry, list_of, live_count, potential_count, live_list, potential_list}
-use Rattle.law_lists.specs.Laws.{by_cases, length-those, length-of-map, length-pad, take-pad}
+use Rattle.law_lists.proofs.Laws.{by_cases, length-those, length-of-map, length-pad, take-pad}
 use Rattle.table_expiry.proofs.Aging.{at-most-16}
 
 parted : (l : List Peer) → length (those is_live l) + length (those is_potential l) ≡ length l

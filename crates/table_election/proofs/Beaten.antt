@@ -23,7 +23,7 @@ use Rattle.table_counts.specs.Counts.{live_count}
 use Rattle.table_election.specs.Elect.{lower, rank_of, may_lead, eligible, candidates, winner, elected}
 use Rattle.table_election.specs.Lead.{leader, ranks, server_led}
 use Rattle.table_election.specs.Stand.{is_ours, is_theirs, beats_us, some_beats, stand_of}
-use Rattle.law_lists.specs.Laws.{by_cases, or-none, or-with, those-kept, those-gone}
+use Rattle.law_lists.proofs.Laws.{by_cases, or-none, or-with, those-kept, those-gone}
 use Rattle.table_election.proofs.Least.{either_way, led-winner}
 
 -- ---- one turn of the loops

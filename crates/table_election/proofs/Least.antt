@@ -24,7 +24,7 @@ use Rattle.table_election.specs.Elect.{lower, rank_of, Candidate, ourselves, pee
 use Rattle.table_election.specs.Least.{Least}
 use Rattle.table_election.specs.Lead.{leader, lead_step, ranks, server_led, first_lead}
 use Rattle.table_expiry.specs.Kept.{absent, distinct}
-use Rattle.law_lists.specs.Laws.{by_cases, clash, never, first-of, mem-those, those-mem, mem-map}
+use Rattle.law_lists.proofs.Laws.{by_cases, clash, never, first-of, mem-those, those-mem, mem-map}
 use Rattle.law_kept.specs.Apart.{absent-clash, held-member}
 use Rattle.table_election.proofs.Order.{lower-ntrans, lower-asym, lower-irrefl, lower-total}
 

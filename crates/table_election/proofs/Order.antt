@@ -8,7 +8,7 @@ use lib.Dec.{ltb}
 use borrow.Author.Tests.{lt-ltb, le-ltb, ltb-true, ltb-false}
 use Rattle.table_election.specs.declared.Rank.{Rank}
 use Rattle.table_election.specs.Elect.{lex, lower}
-use Rattle.law_lists.specs.Laws.{by_cases, clash}
+use Rattle.law_lists.proofs.Laws.{by_cases, clash}
 
 lex-false : (x y : ℕ) (r : Bool) → lex x y r ≡ false → (y < x) ⊎ ((x ≡ y) × (r ≡ false))
 lex-false x y r e =

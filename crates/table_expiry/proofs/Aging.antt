@@ -13,7 +13,7 @@ use Rattle.law_lists.specs.Lists.{those, pad}
 use Rattle.table.specs.Table.{room, blank_peer, entries, table_of, empty_table}
 use Rattle.table_expiry.specs.Expiry.{life_time, fresh_at, fresh_peer, lapsed, unproven, aged_peer, aged_list, still_peer, steady_in, refilled, expired}
 use Rattle.table_expiry.specs.Kept.{Tidy}
-use Rattle.law_lists.specs.Laws.{by_cases, first-of, second-of, length-those, length-of-map, length-pad, take-pad}
+use Rattle.law_lists.proofs.Laws.{by_cases, first-of, second-of, length-those, length-of-map, length-pad, take-pad}
 
 -- ---- lists
 

@@ -11,7 +11,7 @@ use Rattle.table.specs.declared.Peer.{Peer}
 use Rattle.law_lists.specs.Lists.{pad}
 use Rattle.table.specs.Table.{blank_peer}
 use Rattle.table_expiry.specs.Expiry.{fresh_peer, aged_peer, aged_list}
-use Rattle.law_lists.specs.Laws.{length-pad, store_kept, store-gone}
+use Rattle.law_lists.proofs.Laws.{length-pad, store_kept, store-gone}
 use Rattle.table_expiry.proofs.Aging.{length-aged, pad-more}
 
 -- the slots after i turns

@@ -7,7 +7,7 @@ use Rattle.base_mi.specs.declared.Mi.{Mi}
 use Rattle.table.specs.declared.Peer.{Peer}
 use Rattle.table.specs.declared.Table.{Table}
 use Rattle.law_lists.specs.Lists.{every}
-use Rattle.law_lists.specs.Laws.{both, first-of, second-of}
+use Rattle.law_lists.proofs.Laws.{both, first-of, second-of}
 use Rattle.table.specs.Table.{entries}
 use Rattle.table_expiry.specs.Expiry.{fresh_peer}
 use Rattle.table_expiry.specs.Kept.{unproven_zero, timely, fresh_proof, ordered, distinct, absent, has_number, peer_rules, Kept}

@@ -10,7 +10,7 @@ use borrow.Author.Tests.{lt-ltb, le-ltb, leb-true, leb-false}
 use Rattle.table.specs.declared.Peer.{Peer}
 use Rattle.table.specs.Table.{blank_peer}
 use Rattle.table_expiry.specs.Expiry.{life_time, fresh_at, still_peer, steady_in, oldest_at, still_from}
-use Rattle.law_lists.specs.Laws.{by_cases, loop-next, drop-end}
+use Rattle.law_lists.proofs.Laws.{by_cases, loop-next, drop-end}
 
 -- less than a life time old is not from before the oldest such time
 pub fresh-from : (time at : ℕ) → leb (oldest_at time) at ≡ fresh_at time at

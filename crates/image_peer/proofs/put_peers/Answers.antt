@@ -1,6 +1,6 @@
 use Rattle.image_peer.proofs.Laws.{length-peer}
 use Rattle.image_peer.specs.Peer.{peer_octets, peers_octets}
-use Rattle.law_lists.specs.Laws.{drop-end}
+use Rattle.law_lists.proofs.Laws.{drop-end}
 use Rattle.table.specs.declared.Peer.{Peer}
 use Rattle.table.specs.Table.{blank_peer}
 use Rattle.base_octets.proofs.Stores.{runs-step}

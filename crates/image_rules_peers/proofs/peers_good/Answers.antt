@@ -5,7 +5,7 @@ use lib.ListN.{length, drop, get_or}
 use Rattle.table.specs.declared.Table.{Table}
 use borrow.Author.Rules.{rules}
 use Rattle.table.specs.Table.{room, blank_peer, entries}
-use Rattle.law_lists.specs.Laws.{loop-next, drop-end}
+use Rattle.law_lists.proofs.Laws.{loop-next, drop-end}
 use Rattle.image_rules.specs.Records.{peers_good}
 use Rattle.image_rules_peers.proofs.peers_good.Goals as goal
 

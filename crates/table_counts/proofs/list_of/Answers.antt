@@ -4,7 +4,7 @@ use native.Mathlib.Omega.{arith}
 use lib.ListN.{length}
 use borrow.Author.Rules.{rules}
 use Rattle.table_counts.specs.Counts.{is_of, entry_of, blank_entry}
-use Rattle.law_lists.specs.Laws.{store_kept, store-gone}
+use Rattle.law_lists.proofs.Laws.{store_kept, store-gone}
 use Rattle.table_counts.proofs.list_of.Goals as goal
 use Rattle.table_counts.proofs.list_of.Goals.{else-is_of, then-is_of}
 

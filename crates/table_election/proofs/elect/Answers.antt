@@ -8,7 +8,7 @@ use Rattle.table.specs.Table.{entries, blank_peer}
 use Rattle.table_counts.specs.Counts.{live_count}
 use Rattle.table_election.specs.Elect.{elected}
 use Rattle.table_election.specs.Lead.{leader, ranks, server_led}
-use Rattle.law_lists.specs.Laws.{loop-next, drop-end}
+use Rattle.law_lists.proofs.Laws.{loop-next, drop-end}
 use Rattle.table_election.proofs.Least.{leader-step, led-winner}
 use Rattle.table_election.proofs.Beaten.{live_more, live_same}
 use Rattle.table_election.proofs.elect.Goals as goal

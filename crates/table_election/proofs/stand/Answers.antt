@@ -9,7 +9,7 @@ use Rattle.table.specs.Table.{entries}
 use Rattle.table_lookup.specs.Look.{is_live}
 use Rattle.table_counts.specs.Counts.{live_count}
 use Rattle.table_election.specs.Stand.{some_beats}
-use Rattle.law_lists.specs.Laws.{or-none, or-true}
+use Rattle.law_lists.proofs.Laws.{or-none, or-true}
 use Rattle.table_election.proofs.Beaten.{live_more, live_same, some_next, stood}
 use Rattle.table_election.proofs.stand.Goals as goal
 use Rattle.table_election.proofs.stand.Goals.{else-beats, else-p, then-beats, then-p}

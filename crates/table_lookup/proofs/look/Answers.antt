@@ -3,7 +3,7 @@ use lib.ListN.{length}
 use borrow.Author.Rules.{rules}
 use Rattle.table.specs.Table.{blank_peer}
 use Rattle.table_lookup.specs.Look.{held_in}
-use Rattle.law_lists.specs.Laws.{loop-next, drop-end}
+use Rattle.law_lists.proofs.Laws.{loop-next, drop-end}
 use Rattle.table_lookup.proofs.look.Goals as goal
 
 pub returns-then-same_mi : goal.returns-then-same_mi

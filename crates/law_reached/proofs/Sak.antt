@@ -12,7 +12,7 @@ use Rattle.frame_sets.specs.Set.{bad_set}
 use Rattle.frame_places.specs.declared.Places.{Places}
 use Rattle.frame_sets.proofs.Laws.{head-room, good-head, good-numbered}
 use Rattle.frame_walk.specs.Walk.{next_at, places_after, walk_go, walk_from, walk_of}
-use Rattle.law_lists.specs.Laws.{by_cases, clash}
+use Rattle.law_lists.proofs.Laws.{by_cases, clash}
 use Rattle.call_judge.specs.Judge.{basic_in, places_in}
 use Rattle.law_history.specs.Keys.{sak_spot, sak_read}
 

@@ -5,7 +5,7 @@ use Rattle.std.proofs.Common.{ap, sym, ◌∙◌, arith, drop_at, le-leb, ltb-fa
 use Rattle.std.proofs.Math.Seq.{length-sets}
 use Rattle.std.proofs.lemmas.List.Edits.{sets-eq}
 use Rattle.base_mi.specs.Fitting.{Fitting}
-use Rattle.law_lists.specs.Laws.{both, or-false}
+use Rattle.law_lists.proofs.Laws.{both, or-false}
 use Rattle.participant.specs.Call.{aged_to}
 use Rattle.call_creation.specs.Create.{bad_start, fresh, empty_participant}
 use Rattle.participant.specs.Record.{first32}

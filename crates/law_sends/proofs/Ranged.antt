@@ -3,7 +3,7 @@ use Rattle.std.specs.Prelude.{ℕ, ◌^◌, ◌<◌, ◌≡◌, Bool, true, fals
 use Rattle.std.proofs.Common.{lit<}
 use Rattle.base_mi.specs.Mi.{mi_same}
 use Rattle.law_lists.specs.Lists.{those}
-use Rattle.law_lists.specs.Laws.{first-of}
+use Rattle.law_lists.proofs.Laws.{first-of}
 use Rattle.table.specs.Table.{entries}
 use Rattle.table_counts.specs.Counts.{entry_of}
 use Rattle.table.specs.declared.Peer.{Peer}

@@ -1,5 +1,5 @@
 -- The argument for RoundTrip: each part stands in Round.
-use Rattle.law_round.specs.Round.{basic-back, ckn-back, agility-back, walk-back, live_back, potential-back, use-back, sak-back, wrapped-back}
+use Rattle.law_round.proofs.Round.{basic-back, ckn-back, agility-back, walk-back, live_back, potential-back, use-back, sak-back, wrapped-back}
 use Rattle.law_round.specs.RoundTrip.{RoundTrip}
 
 pub round_trip : RoundTrip

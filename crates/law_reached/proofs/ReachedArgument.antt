@@ -1,7 +1,7 @@
 -- Why: every rule of an image is kept by every accepted call, of the own record, the table, its peers and the keys.
 use Rattle.std.specs.Prelude.{◌≡◌, true, List, []}
 use Rattle.std.proofs.Common.{◌∙◌}
-use Rattle.law_lists.specs.Laws.{both}
+use Rattle.law_lists.proofs.Laws.{both}
 use Rattle.table.specs.Table.{entries}
 use Rattle.participant.specs.declared.Participant.{Participant}
 use Rattle.participant.specs.declared.call.Answer.TheVariants.{Done}
@@ -13,11 +13,11 @@ use Rattle.law_history.specs.Calls.{Creation, created, Call, after}
 use Rattle.law_history.specs.Steps.{facts, becomes}
 use Rattle.law_history.specs.TableArgument.{Keeps, keeps-becomes, keeps}
 use Rattle.law_reached.specs.Carried.{Given, Carried, AllCarried}
-use Rattle.law_reached.specs.Throughout.{throughout}
+use Rattle.law_reached.proofs.Throughout.{throughout}
 use Rattle.law_reached.specs.Reached.{Reached}
-use Rattle.law_reached.specs.Own.{Own, own-start, own-becomes, own-fits, own-good}
-use Rattle.law_reached.specs.Peers.{Peers, peers-start, peers-becomes}
-use Rattle.law_reached.specs.Keys.{KeysOf, keys-start, keys-becomes, keys-good}
+use Rattle.law_reached.proofs.Own.{Own, own-start, own-becomes, own-fits, own-good}
+use Rattle.law_reached.proofs.Peers.{Peers, peers-start, peers-becomes}
+use Rattle.law_reached.proofs.Keys.{KeysOf, keys-start, keys-becomes, keys-good}
 
 -- The three kinds of record, and what every table keeps.
 pub record Parts (p : Participant) : Type 0 where

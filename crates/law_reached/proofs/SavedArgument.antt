@@ -9,7 +9,7 @@ use Rattle.image.specs.Image.{image_of}
 use Rattle.image_reading.specs.Read.{read_of}
 use Rattle.law_saved.specs.SavedArgument.{reads-back}
 use Rattle.law_history.specs.Calls.{after}
-use Rattle.law_reached.specs.ReachedArgument.{reached}
+use Rattle.law_reached.proofs.ReachedArgument.{reached}
 use Rattle.law_reached.specs.Saved.{SavedReadsBack}
 
 -- the octets written, by what is answered

@@ -16,7 +16,7 @@ use Rattle.table_expiry.specs.Kept.{Tidy}
 use Rattle.table_enter.specs.declared.Heard.{Heard}
 use Rattle.table.specs.declared.Peer.{Peer}
 use Rattle.table.specs.declared.Table.{Table}
-use Rattle.law_lists.specs.Laws.{by_cases}
+use Rattle.law_lists.proofs.Laws.{by_cases}
 use Rattle.table_expiry.proofs.Aging.{aged-same, whole-tidy, tidy-expired, entries-empty, entries-expired}
 use Rattle.law_kept.specs.Entering.{entries-entered}
 use Rattle.law_kept.specs.Keeping.{every-aged, every-entered}

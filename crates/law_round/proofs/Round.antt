@@ -29,8 +29,8 @@ use Rattle.frame_writer.specs.Frame.{header_octets, ckn_of, ckn_octets, fixed_oc
 use Rattle.frame_writer.specs.declared.Mkpdu.{Mkpdu}
 use Rattle.frame_writer.proofs.Laws.{length-header, length-fixed, length-basic, length-ckn_of, length-list, length-key, length-body, length-frame, entries_of-le, body-le, body-four}
 use Rattle.law_round.specs.Ranged.{Ranged, basic_written, live_place, potential_place, use_place, sak_place, spot_if, list_spot, places_written, sak_written, GoodEntries}
-use Rattle.law_round.specs.Basic.{begun, basic-read}
-use Rattle.law_round.specs.Sets.{walk-part, body_at, entries-stand, use-stands, kn-stands, wrapped-stands, sak-stands}
+use Rattle.law_round.proofs.Basic.{begun, basic-read}
+use Rattle.law_round.proofs.Sets.{walk-part, body_at, entries-stand, use-stands, kn-stands, wrapped-stands, sak-stands}
 
 -- a list in the form of the other sets
 as-part : (t : ℕ) (es : List Entry) → list_set t es ≡ cond (not (eqb (length es) 0)) (set_header t 0 (length es * 16) ++ list_octets es) []

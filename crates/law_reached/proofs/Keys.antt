@@ -6,7 +6,7 @@ use Rattle.base_octets.specs.Octets.{Octets}
 use Rattle.base_mi.specs.Mi.{mi_same}
 use Rattle.base_mi.specs.declared.Mi.{Mi}
 use Rattle.base_mi.specs.Fitting.{Fitting}
-use Rattle.law_lists.specs.Laws.{by_cases, clash, both, first-of, second-of, or-false}
+use Rattle.law_lists.proofs.Laws.{by_cases, clash, both, first-of, second-of, or-false}
 use Rattle.law_kept.specs.Same.{same-eq, same_refl, same-sym}
 use Rattle.participant.specs.Call.{aged_to}
 use Rattle.call_creation.specs.Create.{fresh}
@@ -37,9 +37,9 @@ use Rattle.law_history.specs.Becomes.{updated_in, by-keyed}
 use Rattle.law_history.specs.Splits.{start}
 use Rattle.law_history.specs.Keys.{sak_spot, sak_read}
 use Rattle.law_reached.specs.Carried.{Carried}
-use Rattle.law_reached.specs.Own.{Own}
-use Rattle.law_reached.specs.Peers.{sender-fits}
-use Rattle.law_reached.specs.Sak.{Carries, handed_out}
+use Rattle.law_reached.proofs.Own.{Own}
+use Rattle.law_reached.proofs.Peers.{sender-fits}
+use Rattle.law_reached.proofs.Sak.{Carries, handed_out}
 
 -- a key on record, where ours are the MI `own` and the KN `kn`
 pub record OnRecord (own : Mi) (kn : ℕ) (k : Key) : Type 0 where

@@ -1,6 +1,6 @@
 -- The induction over histories of calls that carry what they can.
 use Rattle.std.specs.Prelude.{List, [], ◌∷◌, ◌++◌}
-use Rattle.law_lists.specs.Laws.{by_cases}
+use Rattle.law_lists.proofs.Laws.{by_cases}
 use Rattle.participant.specs.declared.Participant.{Participant}
 use Rattle.participant.specs.First.{NoneHolds}
 use Rattle.law_history.specs.Calls.{Creation, Call, after, accepted, Made}

@@ -16,7 +16,7 @@ use Rattle.table_lookup.specs.Look.{seek, held_in, no_room_for, live_for}
 use Rattle.table_enter.specs.Enter.{held_peer, updated, entered}
 use Rattle.table_expiry.specs.Kept.{absent, distinct, ordered}
 use Rattle.law_kept.specs.Proved.{proved_at, aged_proof, is_some}
-use Rattle.law_lists.specs.Laws.{by_cases, first-of, second-of}
+use Rattle.law_lists.proofs.Laws.{by_cases, first-of, second-of}
 use Rattle.law_kept.specs.Same.{same-eq}
 use Rattle.table_expiry.proofs.Aging.{old-later, old-before, aged-same, entries-expired}
 use Rattle.law_kept.specs.Entering.{own-entered, others-entered}

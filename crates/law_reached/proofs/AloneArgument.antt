@@ -6,7 +6,7 @@ use Rattle.base_facts.specs.Facts.{first_of}
 use Rattle.frame.specs.Basic.{basic_facts, basic_of}
 use Rattle.frame.specs.declared.Basic.{Basic}
 use Rattle.frame.specs.declared.BasicRead.TheVariants as on_basic
-use Rattle.law_lists.specs.Laws.{by_cases, never}
+use Rattle.law_lists.proofs.Laws.{by_cases, never}
 use Rattle.participant.specs.Call.{done_of, refused_of, settle}
 use Rattle.participant.specs.declared.Participant.{Participant}
 use Rattle.participant.specs.declared.call.Called.{Called}

@@ -14,16 +14,16 @@ use Rattle.frame_walk.specs.Walk.{walk_of}
 use Rattle.table_counts.proofs.Listing.{live-listed, potential-listed}
 use Rattle.frame_writer.specs.Frame.{ckn_of, body_octets, frame_of}
 use Rattle.frame_writer.specs.declared.Mkpdu.{Mkpdu}
-use Rattle.law_lists.specs.Laws.{by_cases, never}
+use Rattle.law_lists.proofs.Laws.{by_cases, never}
 use Rattle.participant.specs.Call.{aged_to}
 use Rattle.participant.specs.declared.Participant.{Participant}
 use Rattle.call_judge.specs.Judge.{basic_in}
 use Rattle.call_send.specs.Message.{hands_out, sender_of, sak_of, message_of}
 use Rattle.call_send.specs.Send.{frame_at}
 use Rattle.law_round.specs.Ranged.{basic_written, use_place, sak_place, spot_if, places_written, sak_written}
-use Rattle.law_round.specs.Round.{basic-back, ckn-back, walk-back, live_back, potential-back, use-back, sak-back, wrapped-back}
+use Rattle.law_round.proofs.Round.{basic-back, ckn-back, walk-back, live_back, potential-back, use-back, sak-back, wrapped-back}
 use Rattle.law_sends.specs.Sendable.{Sendable}
-use Rattle.law_sends.specs.Ranged.{message-ranged}
+use Rattle.law_sends.proofs.Ranged.{message-ranged}
 use Rattle.law_sends.specs.Sent.{Tells, SendsReadBack}
 
 -- a set that is there stands where it was written

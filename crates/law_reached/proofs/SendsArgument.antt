@@ -2,7 +2,7 @@
 use Rattle.std.specs.Prelude.{ℕ, ◌+◌, ◌^◌, ◌≤◌, ◌<◌, ◌≡◌, true, ◌||◌, List, [], ◌∷◌, length, drop, eqb, ltb}
 use Rattle.std.proofs.Common.{arith, ltb-false, le-ltb}
 use Rattle.std.proofs.lemmas.Bool.{eqb-false}
-use Rattle.law_lists.specs.Laws.{by_cases, or-false}
+use Rattle.law_lists.proofs.Laws.{by_cases, or-false}
 use Rattle.table.specs.Table.{entries}
 use Rattle.table.specs.declared.Peer.{Peer}
 use Rattle.participant.specs.Call.{aged_to}
@@ -16,16 +16,16 @@ use Rattle.law_calls.specs.Passed.{send-passed}
 use Rattle.law_calls.specs.NeverArgument.{risen}
 use Rattle.law_reread.specs.Fit.{FitPeers}
 use Rattle.law_sends.specs.Sendable.{GoodPeers, GoodSlot, Sendable}
-use Rattle.law_sends.specs.SentArgument.{sends-read-back}
+use Rattle.law_sends.proofs.SentArgument.{sends-read-back}
 use Rattle.law_history.specs.Calls.{sends, ticks, after, accepts}
 use Rattle.law_history.specs.Steps.{accepted-zero, accepted-none}
 use Rattle.law_history.specs.Splits.{own}
 use Rattle.law_history.specs.FramesArgument.{next-number, identifier-ours}
 use Rattle.law_reached.specs.Carried.{Carried}
-use Rattle.law_reached.specs.Throughout.{carried-made}
-use Rattle.law_reached.specs.Own.{Started}
-use Rattle.law_reached.specs.Keys.{Placed}
-use Rattle.law_reached.specs.ReachedArgument.{Parts, becomes-parts, parts}
+use Rattle.law_reached.proofs.Throughout.{carried-made}
+use Rattle.law_reached.proofs.Own.{Started}
+use Rattle.law_reached.proofs.Keys.{Placed}
+use Rattle.law_reached.proofs.ReachedArgument.{Parts, becomes-parts, parts}
 use Rattle.law_reached.specs.Sends.{ReachedSends}
 
 -- the creating ranges, by number

@@ -10,7 +10,7 @@ use Rattle.base_mi.proofs.Laws.{length-mi, mi-stands}
 use Rattle.base_packed.proofs.Laws.{bit-lt, bit-eqb, eqb-bit}
 use Rattle.law_lists.specs.Lists.{every}
 use Rattle.table.specs.declared.Peer.{Peer}
-use Rattle.law_lists.specs.Laws.{both, first-of, second-of}
+use Rattle.law_lists.proofs.Laws.{both, first-of, second-of}
 use Rattle.image_peer.specs.Peer.{peer_flags, peer_octets, peers_octets, peer_at, peer_clean, peers_at, peers_clean}
 use Rattle.image_peer.proofs.Laws.{length-peer}
 use Rattle.law_reread.specs.Cut.{glue, octet-cut, mi-cut, after-it}

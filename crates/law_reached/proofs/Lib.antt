@@ -1,0 +1,9 @@
+pub mod Keys
+pub mod Own
+pub mod Peers
+pub mod Sak
+pub mod Throughout
+pub mod ReachedArgument
+pub mod SavedArgument
+pub mod SendsArgument
+pub mod AloneArgument

@@ -1,0 +1,4 @@
+pub mod Basic
+pub mod Sets
+pub mod Round
+pub mod RoundTripArgument

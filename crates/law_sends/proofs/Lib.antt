@@ -1,0 +1,2 @@
+pub mod Ranged
+pub mod SentArgument

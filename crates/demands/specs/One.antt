@@ -13,7 +13,7 @@ use Rattle.image_reading.specs.Read.{well_formed, read_of}
 use Rattle.law_history.specs.Calls.{Creation, created, Call, receives, sends, distributes, ticks, renews, reports, asks, saves, answer_of, answered}
 use Rattle.law_history.specs.Steps.{facts}
 use Rattle.law_history.specs.Refusals.{refusal_in, lent, left_in}
-use Rattle.law_history.specs.RefusalsArgument as refusals
+use Rattle.law_history.proofs.RefusalsArgument as refusals
 use Rattle.law_reached.proofs.AloneArgument as alone
 
 -- the numbers of a call's facts, in their order

@@ -9,13 +9,13 @@ use Rattle.table.specs.declared.Peer.{Peer}
 use Rattle.participant.specs.declared.call.Answer.TheVariants.{Done}
 use Rattle.law_history.specs.Calls.{Creation, created, Call, after, identifier}
 use Rattle.law_history.specs.Live.{is_live_after, ProvedLately}
-use Rattle.law_history.specs.LiveArgument.{live-exactly}
+use Rattle.law_history.proofs.LiveArgument.{live-exactly}
 use Rattle.law_history.specs.Table.{peers_after}
-use Rattle.law_history.specs.TableArgument.{never-over-16, never-twice, never-ourselves}
+use Rattle.law_history.proofs.TableArgument.{never-over-16, never-twice, never-ourselves}
 use Rattle.law_history.specs.Keys.{Ours, Theirs}
-use Rattle.law_history.specs.KeysArgument.{latest-handed-out, old-handed-out}
+use Rattle.law_history.proofs.KeysArgument.{latest-handed-out, old-handed-out}
 use Rattle.law_history.specs.Clock.{Latest}
-use Rattle.law_history.specs.ClockArgument.{clock-latest}
+use Rattle.law_history.proofs.ClockArgument.{clock-latest}
 
 -- k is an accepted creation, cs any calls after it, accepted or refused, the newest first.
 pub record Three : Type 0 where

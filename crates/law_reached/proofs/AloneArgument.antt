@@ -16,7 +16,7 @@ use Rattle.participant.proofs.Settle.{first_holds, first-number}
 use Rattle.call_creation.specs.Create.{created_of}
 use Rattle.image_reading.specs.Read.{read_of}
 use Rattle.law_history.specs.Calls.{created}
-use Rattle.law_history.specs.RefusalsArgument.{counted}
+use Rattle.law_history.proofs.RefusalsArgument.{counted}
 use Rattle.law_reached.specs.Alone.{CreateRefused, ReadRefused, SetsRefused}
 
 -- an answer that refuses with the first fact's number, where that isn't 0

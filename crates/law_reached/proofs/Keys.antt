@@ -33,8 +33,8 @@ use Rattle.law_reread.specs.Fit.{FitKey}
 use Rattle.law_saved.specs.WellFormed.{TidySlot}
 use Rattle.law_history.specs.Calls.{Creation, created, Call, receives, sends, distributes, ticks, renews, reports, asks, saves, after}
 use Rattle.law_history.specs.Steps.{facts, becomes}
-use Rattle.law_history.specs.Becomes.{updated_in, by-keyed}
-use Rattle.law_history.specs.Splits.{start}
+use Rattle.law_history.proofs.Becomes.{updated_in, by-keyed}
+use Rattle.law_history.proofs.Splits.{start}
 use Rattle.law_history.specs.Keys.{sak_spot, sak_read}
 use Rattle.law_reached.specs.Carried.{Carried}
 use Rattle.law_reached.proofs.Own.{Own}

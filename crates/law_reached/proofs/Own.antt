@@ -27,8 +27,8 @@ use Rattle.image_rules.specs.Records.{own_good}
 use Rattle.law_reread.specs.Fit.{FitOwn}
 use Rattle.law_history.specs.Calls.{Creation, created, Call, receives, sends, distributes, ticks, renews, reports, asks, saves, after}
 use Rattle.law_history.specs.Steps.{facts, becomes}
-use Rattle.law_history.specs.Becomes.{received-leaves, not-before}
-use Rattle.law_history.specs.Splits.{start}
+use Rattle.law_history.proofs.Becomes.{received-leaves, not-before}
+use Rattle.law_history.proofs.Splits.{start}
 use Rattle.law_reached.specs.Carried.{Given, Carried}
 
 -- what a creation is judged by, and its CKN in the array of 32

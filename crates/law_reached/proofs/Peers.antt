@@ -36,9 +36,9 @@ use Rattle.image_rules.specs.Rules.{two_bits}
 use Rattle.law_reread.specs.Fit.{FitPeer, FitPeers}
 use Rattle.law_history.specs.Calls.{Creation, created, Call, receives, sends, distributes, ticks, renews, reports, asks, saves, after}
 use Rattle.law_history.specs.Steps.{facts, becomes}
-use Rattle.law_history.specs.Becomes.{proves, received-table}
-use Rattle.law_history.specs.Splits.{start}
-use Rattle.law_history.specs.TableArgument.{Keeps}
+use Rattle.law_history.proofs.Becomes.{proves, received-table}
+use Rattle.law_history.proofs.Splits.{start}
+use Rattle.law_history.proofs.TableArgument.{Keeps}
 use Rattle.law_reached.specs.Carried.{Carried}
 
 pub record Entries (l : List Peer) : Type 0 where

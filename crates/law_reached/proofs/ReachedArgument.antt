@@ -11,7 +11,7 @@ use Rattle.image_rules.specs.ByRecord.{peers-by-rule, by-record}
 use Rattle.law_saved.specs.WellFormed.{WellFormed}
 use Rattle.law_history.specs.Calls.{Creation, created, Call, after}
 use Rattle.law_history.specs.Steps.{facts, becomes}
-use Rattle.law_history.specs.TableArgument.{Keeps, keeps-becomes, keeps}
+use Rattle.law_history.proofs.TableArgument.{Keeps, keeps-becomes, keeps}
 use Rattle.law_reached.specs.Carried.{Given, Carried, AllCarried}
 use Rattle.law_reached.proofs.Throughout.{throughout}
 use Rattle.law_reached.specs.Reached.{Reached}

@@ -19,8 +19,8 @@ use Rattle.law_sends.specs.Sendable.{GoodPeers, GoodSlot, Sendable}
 use Rattle.law_sends.proofs.SentArgument.{sends-read-back}
 use Rattle.law_history.specs.Calls.{sends, ticks, after, accepts}
 use Rattle.law_history.specs.Steps.{accepted-zero, accepted-none}
-use Rattle.law_history.specs.Splits.{own}
-use Rattle.law_history.specs.FramesArgument.{next-number, identifier-ours}
+use Rattle.law_history.proofs.Splits.{own}
+use Rattle.law_history.proofs.FramesArgument.{next-number, identifier-ours}
 use Rattle.law_reached.specs.Carried.{Carried}
 use Rattle.law_reached.proofs.Throughout.{carried-made}
 use Rattle.law_reached.proofs.Own.{Started}

@@ -5,7 +5,7 @@ use Rattle.participant.specs.declared.Participant.{Participant}
 use Rattle.participant.specs.First.{NoneHolds}
 use Rattle.law_history.specs.Calls.{Creation, Call, after, accepted, Made}
 use Rattle.law_history.specs.Steps.{facts, becomes, accepted-none}
-use Rattle.law_history.specs.Splits.{after-accepted, after-refused}
+use Rattle.law_history.proofs.Splits.{after-accepted, after-refused}
 use Rattle.law_reached.specs.Carried.{Carried, AllCarried}
 
 -- what holds of the created participant and is kept by each accepted call holds after any history

@@ -9,8 +9,8 @@ use Rattle.participant.specs.declared.Participant.{Participant}
 use Rattle.participant.specs.declared.call.Answer.TheVariants.{Done}
 use Rattle.law_history.specs.Calls.{Creation, created, Call, answered, played, after, accepts, accepted, time_of}
 use Rattle.law_history.specs.Steps.{accepted-becomes, accepted-none, refused-leaves}
-use Rattle.law_history.specs.Becomes.{time_or, effect, not-before}
-use Rattle.law_history.specs.Splits.{start, from-append, made-now, made-before, after-accepted, after-refused}
+use Rattle.law_history.proofs.Becomes.{time_or, effect, not-before}
+use Rattle.law_history.proofs.Splits.{start, from-append, made-now, made-before, after-accepted, after-refused}
 use Rattle.law_history.specs.Clock.{Timed, ClockLatest}
 
 -- no call sets the clock back

@@ -23,8 +23,8 @@ use Rattle.call_accept.specs.Accept.{heard_of}
 use Rattle.call_send.specs.Send.{sent_at}
 use Rattle.law_history.specs.Calls.{Creation, created, Call, receives, sends, distributes, ticks, renews, reports, asks, saves, after}
 use Rattle.law_history.specs.Steps.{facts, becomes, accepted-none}
-use Rattle.law_history.specs.Becomes.{proves, effect, received-table, not-before}
-use Rattle.law_history.specs.Splits.{always, own}
+use Rattle.law_history.proofs.Becomes.{proves, effect, received-table, not-before}
+use Rattle.law_history.proofs.Splits.{always, own}
 use Rattle.law_history.specs.Table.{peers_after, NeverOver16, NeverTwice, NeverOurselves}
 
 -- All that the layers below keep of a table, at the participant's clock.

@@ -12,7 +12,7 @@ use Rattle.law_calls.specs.Settled.{create-settles}
 use Rattle.law_lists.proofs.Laws.{by_cases, never, clash}
 use Rattle.law_history.specs.Calls.{Creation, created, Call, receives, sends, distributes, ticks, renews, reports, asks, saves, answered, played, after, accepts, accepted, folded, identifier_after, handed, identifier, keys_distributed, Made, NoneTaken}
 use Rattle.law_history.specs.Steps.{becomes, refused-leaves, accepted-becomes}
-use Rattle.law_history.specs.Becomes.{effect}
+use Rattle.law_history.proofs.Becomes.{effect}
 
 -- what an accepted creation gives
 pub start : (k : Creation) → (created k).answer ≡ Done → (created k).participant ≡ fresh k.time k.mi k.sci k.priority k.capability k.desired k.ckn

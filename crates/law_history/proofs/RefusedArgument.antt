@@ -3,7 +3,7 @@ use Rattle.std.proofs.Common.{ap, sym, ◌∙◌}
 use Rattle.std.specs.Prelude.{◌∷◌}
 use Rattle.participant.specs.declared.Participant.{Participant}
 use Rattle.law_history.specs.Calls.{created, answer_of, played}
-use Rattle.law_history.specs.Splits.{from-append, after-refused}
+use Rattle.law_history.proofs.Splits.{from-append, after-refused}
 use Rattle.law_history.specs.Refused.{LeftOut, AnswersSame}
 
 pub left_out : LeftOut

@@ -12,7 +12,7 @@ use Rattle.participant.specs.Call.{aged_to}
 use Rattle.call_questions.specs.Ask.{at_clock, asked_server, asked_elected, asked_fresh, asked_live, asked_potential, asked_lives, asked_potentials}
 use Rattle.call_standing.specs.Standing.{server_of, elected_self, fresh_due}
 use Rattle.law_history.specs.Calls.{Creation, Call, after}
-use Rattle.law_history.specs.TableArgument.{keeps}
+use Rattle.law_history.proofs.TableArgument.{keeps}
 
 -- What the questions answer where expiry would leave the participant as it is.
 pub record AsItStands (p : Participant) : Type 0 where

@@ -13,7 +13,7 @@ use Rattle.law_kept.specs.Same.{same-eq, same_refl}
 use Rattle.participant.specs.declared.Participant.{Participant}
 use Rattle.call_judge.specs.Judge.{walk_in, places_in}
 use Rattle.call_hearing.specs.Proof.{is_recent, any_recent, named_in, proves_in}
-use Rattle.law_history.specs.Becomes.{proves}
+use Rattle.law_history.proofs.Becomes.{proves}
 use Rattle.law_history.specs.Live.{listed}
 
 -- an entry with our identifier and a number that is recent by the last one sent

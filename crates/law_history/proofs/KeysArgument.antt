@@ -34,9 +34,9 @@ use Rattle.call_accept.specs.Accept.{admitted, updated_by, accepted_by}
 use Rattle.call_send.specs.Send.{sent_at}
 use Rattle.law_history.specs.Calls.{Creation, created, Call, receives, sends, distributes, ticks, renews, reports, asks, saves, after, accepted}
 use Rattle.law_history.specs.Steps.{becomes, accepted-none}
-use Rattle.law_history.specs.Becomes.{updated_in, by-keyed}
-use Rattle.law_history.specs.Splits.{start, own, distributed, capable, made-now, made-before, after-accepted, after-refused}
-use Rattle.law_history.specs.TableArgument.{keeps}
+use Rattle.law_history.proofs.Becomes.{updated_in, by-keyed}
+use Rattle.law_history.proofs.Splits.{start, own, distributed, capable, made-now, made-before, after-accepted, after-refused}
+use Rattle.law_history.proofs.TableArgument.{keeps}
 use Rattle.law_history.specs.Keys.{CameFrom, sak_spot, sak_read, LatestHandedOut, OldHandedOut}
 
 -- ---- what a history has said stays said; reports change only the flags

@@ -28,9 +28,9 @@ use Rattle.call_accept.specs.Accept.{heard_of}
 use Rattle.call_send.specs.Send.{sent_at}
 use Rattle.law_history.specs.Calls.{Creation, created, Call, receives, sends, distributes, ticks, renews, reports, asks, saves, after, folded}
 use Rattle.law_history.specs.Steps.{facts, becomes, accepted-none}
-use Rattle.law_history.specs.Becomes.{proves, effect, received-table, not-before}
-use Rattle.law_history.specs.Splits.{carry}
-use Rattle.law_history.specs.TableArgument.{Keeps, keeps-becomes, keeps}
+use Rattle.law_history.proofs.Becomes.{proves, effect, received-table, not-before}
+use Rattle.law_history.proofs.Splits.{carry}
+use Rattle.law_history.proofs.TableArgument.{Keeps, keeps-becomes, keeps}
 
 -- a frame is of m's and is a proof
 abbrev pub proves_of : Participant → Mi → List ℕ → Bool

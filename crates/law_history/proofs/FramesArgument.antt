@@ -2,10 +2,10 @@
 use Rattle.std.specs.Prelude.{ℕ, zero, suc, ◌+◌, ◌≡◌, refl, length}
 use Rattle.std.proofs.Common.{ap, sym, ◌∙◌}
 use Rattle.law_history.specs.Calls.{after, numbers_sent}
-use Rattle.law_history.specs.Splits.{own}
-use Rattle.law_history.specs.Written.{number-sent, identifier-sent}
+use Rattle.law_history.proofs.Splits.{own}
+use Rattle.law_history.proofs.Written.{number-sent, identifier-sent}
 use Rattle.law_history.specs.Recent.{countdown}
-use Rattle.law_history.specs.RecentArgument.{counts, numbers-count}
+use Rattle.law_history.proofs.RecentArgument.{counts, numbers-count}
 use Rattle.law_history.specs.Frames.{NextNumber, IdentifierOurs}
 
 length-countdown : (n : ℕ) → length (countdown n) ≡ n

@@ -13,9 +13,9 @@ use Rattle.law_calls.specs.Passed.{send-passed}
 use Rattle.call_hearing.specs.Proof.{window, is_recent}
 use Rattle.law_history.specs.Calls.{Creation, created, Call, receives, sends, distributes, ticks, renews, reports, asks, saves, after, accepts, wrote, numbers_sent}
 use Rattle.law_history.specs.Steps.{facts, becomes, accepted-none}
-use Rattle.law_history.specs.Becomes.{counted, effect}
-use Rattle.law_history.specs.Splits.{carry}
-use Rattle.law_history.specs.Written.{number-sent}
+use Rattle.law_history.proofs.Becomes.{counted, effect}
+use Rattle.law_history.proofs.Splits.{carry}
+use Rattle.law_history.proofs.Written.{number-sent}
 use Rattle.law_history.specs.Recent.{Recent, countdown, NumbersCount, RecentExactly}
 
 -- ---- the numbers sent count down from MN to 1

@@ -14,13 +14,13 @@ use Rattle.call_judge.specs.Judge.{basic_in}
 use Rattle.call_hearing.specs.Proof.{window}
 use Rattle.law_history.specs.Calls.{Creation, created, Call, receives, sends, distributes, ticks, renews, reports, asks, saves, after, accepted, identifier, NoneTaken}
 use Rattle.law_history.specs.Steps.{accepted-none}
-use Rattle.law_history.specs.Becomes.{proves, not-before}
-use Rattle.law_history.specs.Splits.{own, made-now, made-before, taken_none, taken-before, taken-after, identifier-kept, identifier-received, identifier-since}
-use Rattle.law_history.specs.ClockArgument.{onward, clock-set}
-use Rattle.law_history.specs.RecentArgument.{recent-exactly}
-use Rattle.law_history.specs.Proving.{proves_of, last_proof, proof_by, live-is}
+use Rattle.law_history.proofs.Becomes.{proves, not-before}
+use Rattle.law_history.proofs.Splits.{own, made-now, made-before, taken_none, taken-before, taken-after, identifier-kept, identifier-received, identifier-since}
+use Rattle.law_history.proofs.ClockArgument.{onward, clock-set}
+use Rattle.law_history.proofs.RecentArgument.{recent-exactly}
+use Rattle.law_history.proofs.Proving.{proves_of, last_proof, proof_by, live-is}
 use Rattle.law_history.specs.Live.{Proof, ProvedLately, is_live_after, LiveExactly}
-use Rattle.law_history.specs.Naming.{proves-has, has-proves}
+use Rattle.law_history.proofs.Naming.{proves-has, has-proves}
 
 -- the last proof, at that time or later
 record Since (x : Option ℕ) (time : ℕ) : Type 0 where

@@ -1,0 +1,14 @@
+pub mod Becomes
+pub mod Splits
+pub mod Written
+pub mod ClockArgument
+pub mod TableArgument
+pub mod RecentArgument
+pub mod RefusedArgument
+pub mod RefusalsArgument
+pub mod FramesArgument
+pub mod KeysArgument
+pub mod Proving
+pub mod Naming
+pub mod LiveArgument
+pub mod Asked

@@ -1,12 +1,10 @@
 -- A call's facts and their numbers, and the padding of a length.
-use Rattle.std.specs.Prelude.{ℕ, ◌+◌, ◌*◌, ◌/◌, Bool, true, false, cond, List, [], ◌∷◌}
-use Rattle.base_facts.specs.declared.Check.{Check}
-use Rattle.base_facts.specs.declared.Check.TheVariants.{Passed, Failed}
+use Rattle.std.specs.Prelude.{ℕ, ◌+◌, ◌*◌, ◌/◌, Bool, true, false, cond, List, [], ◌∷◌, Option, Some, None}
 
--- A check fails exactly when its fact holds.
-abbrev pub check_of : Bool → Check
-check_of true = Failed
-check_of false = Passed
+-- A check gives nothing exactly when its fact holds.
+abbrev pub check_of : Bool → Option (Unit {0})
+check_of true = None
+check_of false = Some tt
 
 -- "Each is given exactly when its fact holds and no earlier one does": the number of the first fact of a call's list that holds, 0 if none does.
 abbrev pub first_of : List (ℕ × Bool) → ℕ

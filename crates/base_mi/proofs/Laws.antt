@@ -1,12 +1,14 @@
 -- Laws of member identifiers and list entries.
-use Prim.Native.Nat.{ℕ, zero, suc, ◌+◌, ◌-◌, ◌^◌, ◌≤◌, ◌<◌}
+use Prim.Native.Nat.{ℕ, zero, suc, ◌+◌, ◌^◌, ◌≤◌, ◌<◌}
 use mathlib.Core.Path.{◌≡◌, refl, ap, sym, ◌∙◌}
-use mathlib.Core.List.{List, [], ◌∷◌, ◌++◌, append_assoc}
-use native.Mathlib.Numerals.{add-one}
+use mathlib.Core.List.{List, [], ◌∷◌, ◌++◌}
 use native.Mathlib.Omega.{arith}
 use native.Mathlib.Nat.{add-zero}
-use lib.ListN.{length, get_or, set, replicate, length-append, get_or-append}
-use lib.Seq.{set_at, get_or_at}
+use lib.ListN.{length, get_or, length-append, get_or-append}
+use lib.Seq.{get_or_at}
+use Rattle.std.specs.Prelude.{take, drop}
+use Rattle.std.proofs.Math.Seq.{take-suc}
+use Rattle.std.proofs.lemmas.List.{get_or-drop, length-drop}
 use mathlib.Core.Bool.{Bool, true, false}
 use borrow.Author.Tests.{ltb-true, ltb-false}
 use lib.Dec.{ltb, lit≤}
@@ -30,12 +32,13 @@ unfolding cut_at
 length_cut s at zero = refl
 length_cut s at (suc n) = length-append (cut_at s at n) (get_or s (at + n) 0 ∷ []) ∙ omega (arith, length_cut s at n)
 
--- one octet more, where zeros stood
-pub cut_step : (s : List ℕ) (at i n : ℕ) → i < n → set (cut_at s at i ++ replicate (n - i) 0) i (get_or s (at + i) 0) ≡ cut_at s at (i + 1) ++ replicate (n - (i + 1)) 0
+-- where the octets are there, they are a part of the slice
+pub cut-taken : (s : List ℕ) (at n : ℕ) → at + n ≤ length s → take n (drop at s) ≡ cut_at s at n
 unfolding cut_at
-cut_step s at i n h =
-    let m : n - i ≡ suc (n - (i + 1)) = omega arith in
-    rw (m, add-one, set_at (cut_at s at i) 0 (replicate (n - suc i) 0) (get_or s (at + i) 0) i (length_cut s at i), append_assoc)
+cut-taken s at zero h = refl
+cut-taken s at (suc n) h =
+    let inside : n < length (drop at s) = omega (arith, length-drop at s) in
+    take-suc (drop at s) n 0 inside ∙ rw (cut-taken s at n (omega arith), get_or-drop at s n 0)
 
 pub get_or-cut : (s : List ℕ) (at n i : ℕ) → i < n → get_or (cut_at s at n) i 0 ≡ get_or s (at + i) 0
 unfolding cut_at

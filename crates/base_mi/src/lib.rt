@@ -3,12 +3,12 @@
 
 ghost use Rattle.std.specs.Prelude.{◌≡◌};
 ghost use Rattle.std.proofs.lemmas.List.Edits.{sets};
-ghost use Rattle.base_mi.specs.Mi.{mi_at, mi_octets, mi_same};
+ghost use Rattle.base_mi.specs.Mi.{mi_at, mi_octets};
 
 pub mod entry;
 
 #[repr(C)]
-#[derive(Clone, Copy)]
+#[derive(Clone, Copy, PartialEq, Eq, PartialOrd, Ord, Default)]
 pub struct Mi {
     pub hi: u64,
     pub lo: u32,
@@ -34,10 +34,4 @@ pub fn put_mi(out: &mut [u8], at: usize, m: Mi)
     }
     base_octets::put_u64(out, at, m.hi);
     base_octets::put_u32(out, at + 8, m.lo);
-}
-
-pub fn same_mi(a: Mi, b: Mi) -> bool
-    ensures { result ≡ mi_same a b }
-{
-    if a.hi == b.hi { a.lo == b.lo } else { false }
 }

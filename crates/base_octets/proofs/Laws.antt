@@ -1,62 +1,26 @@
 -- Laws of big-endian numbers, over the width.
-use Prim.Native.Nat.{ℕ, zero, suc, ◌+◌, ◌-◌, ◌*◌, ◌/◌, ◌%◌, ◌^◌, ◌≤◌, ◌<◌}
+use Prim.Native.Nat.{ℕ, min, zero, suc, ◌+◌, ◌-◌, ◌*◌, ◌/◌, ◌%◌, ◌^◌, ◌≤◌, ◌<◌}
 use mathlib.Core.Path.{◌≡◌, refl, ap, sym, ◌∙◌}
 use mathlib.Core.Logic.{◌≢◌}
 use mathlib.Core.List.{List, [], ◌∷◌, ◌++◌, append_assoc}
 use native.Mathlib.Numerals.{add-one}
-use native.Mathlib.Nat.{pow-suc, pow-le-pow_right}
+use native.Mathlib.Nat.{pow-suc, pow-succ', div-div-eq-div-mul}
 use native.Mathlib.Omega.{arith}
 use native.Mathlib.Nat.{add-zero, add_assoc}
 use lib.ListN.{length, get_or, set, take, drop, replicate, length-append, length-drop, take-append-drop, get_or-eq_default, get_or-append}
+use borrow.Rule.Slice.PartMut.{put_mid}
+use Rattle.std.specs.Int.{byte_at, bytes_high_first}
+use Rattle.std.proofs.Math.Seq.{length-sets, drop-drop}
+use mathlib.Core.Path.{ap₂}
 use lib.Seq.{sets, sets-eq, drop-cons, take-add, take-suc, set_out, set_comm, get_or-drop, get_or-append-add, get_or-append_seam, length-take-le}
-use lib.Dec.{lit<}
 use Rattle.base_octets.specs.Number.{be_at, be_of}
 use Rattle.base_octets.specs.Octets.{Octets}
-
-pub be_at-zero : (s : List ℕ) (at : ℕ) → be_at s at 0 ≡ 0
-unfolding be_at
-be_at-zero s at = refl
-
-pub be_at-next : (s : List ℕ) (at n : ℕ) → be_at s at (n + 1) ≡ be_at s at n * 256 + get_or s (at + n) 0
-unfolding be_at
-be_at-next s at n = rw add-one
 
 -- n octets make a number below 256 ^ n
 pub be_at-lt : (s : List ℕ) (at n : ℕ) → Octets s → be_at s at n < 256 ^ n
 unfolding be_at
 be_at-lt s at zero h = omega arith
 be_at-lt s at (suc n) h = rw pow-suc (omega (arith, be_at-lt s at n h, (h (at + n)).fits))
-
--- the same with a bound on the width
-pub be_at-below : (s : List ℕ) (at n m : ℕ) → n ≤ m → Octets s → be_at s at n < 256 ^ m
-be_at-below s at n m le h = omega (arith, be_at-lt s at n h, pow-le-pow_right {n = 256} (lit< tt) le)
-
--- one octet more still fits 64 bits: what a turn of a loop that reads a number asks
-pub be-turn : (s : List ℕ) (at i n v : ℕ) → n ≤ 8 → i < n → v ≡ be_at s at i → Octets s → v * 256 + get_or s (at + i) 0 < 2 ^ 64
-be-turn s at i n v le lt e h =
-    let le' : i ≤ 7 = omega arith in
-    omega (arith, be_at-below s at i 7 le' h, (h (at + i)).fits)
-
--- eight octets are two numbers of four
-pub be_at-halves : (s : List ℕ) (at : ℕ) → be_at s at 8 ≡ be_at s at 4 * 4294967296 + be_at s (at + 4) 4
-be_at-halves s at =
-    let e : (k : ℕ) → get_or s (at + 4 + k) 0 ≡ get_or s (at + (4 + k)) 0 = λ k. ap (λ (j : ℕ). get_or s j 0) (add_assoc at 4 k) in
-    omega (
-      arith,
-      be_at-next s at 4,
-      be_at-next s at 5,
-      be_at-next s at 6,
-      be_at-next s at 7,
-      be_at-zero s (at + 4),
-      be_at-next s (at + 4) 0,
-      be_at-next s (at + 4) 1,
-      be_at-next s (at + 4) 2,
-      be_at-next s (at + 4) 3,
-      e 0,
-      e 1,
-      e 2,
-      e 3,
-    )
 
 -- past the end the number is 0
 pub be_at-out : (s : List ℕ) (at n : ℕ) → length s ≤ at → be_at s at n ≡ 0
@@ -67,6 +31,15 @@ be_at-out s at (suc n) h =
     omega (arith, be_at-out s at n h, get_or-eq_default s 0 past)
 
 -- ---- written numbers
+
+-- byte k + 1 of a number is byte k of its 256th part
+byte_at-next : (k v : ℕ) → byte_at (suc k) v ≡ byte_at k (v / 256)
+byte_at-next zero v = refl
+byte_at-next (suc k) v = rw (div-div-eq-div-mul v 256 (256 ^ suc k), pow-succ' 256 (suc k))
+
+byte-last : (n v : ℕ) → bytes_high_first (suc n) v ≡ bytes_high_first n (v / 256) ++ (v % 256 ∷ [])
+byte-last zero v = refl
+byte-last (suc n) v = ap₂ (λ (x : ℕ) (l : List ℕ). x ∷ l) (byte_at-next n v) (byte-last n v)
 
 pub length-be_of : (n v : ℕ) → length (be_of n v) ≡ n
 unfolding be_of
@@ -80,6 +53,11 @@ sets-out l (a ∷ vs) i h =
     let e : set l i a ≡ l = set_out l i a h in
     let h' : length l ≤ suc i = omega arith in
     ap (λ (k : List ℕ). sets k (suc i) vs) e ∙ sets-out l vs (suc i) h'
+
+-- nor does one of nothing
+sets-over : (l vs : List ℕ) (i : ℕ) → (0 < length vs → length l ≤ i) → sets l i vs ≡ l
+sets-over l [] i h = refl
+sets-over l (x ∷ vs) i h = sets-out l (x ∷ vs) i (h (omega arith))
 
 -- storing what stands there changes nothing
 pub sets_same : (l : List ℕ) (at n : ℕ) → at + n ≤ length l → sets l at (take n (drop at l)) ≡ l
@@ -103,22 +81,25 @@ sets-set l i (a ∷ vs) j x h =
     let ne : i ≢ j = omega arith in
     sets-set (set l i a) (suc i) vs j x h' ∙ ap (λ (k : List ℕ). sets k (suc i) vs) (set_comm l i j a x ne)
 
--- the last octet may be stored first: what one turn of `put_within` and `put_across` does
-pub put-turn : (l : List ℕ) (at i v : ℕ) → sets l at (be_of (suc i) v) ≡ sets (set l (at + i) (v % 256)) at (be_of i (v / 256))
-unfolding be_of
-put-turn l at i v =
-    let n = length-be_of i (v / 256) in
-    let h : at + length (be_of i (v / 256)) ≤ at + i = omega arith in
-    sets-append l at (be_of i (v / 256)) (v % 256 ∷ [])
-    ∙ ap (λ (k : ℕ). set (sets l at (be_of i (v / 256))) (at + k) (v % 256)) n
-    ∙ sets-set l at (be_of i (v / 256)) (at + i) (v % 256) h
+-- a part of a slice, written at once
+pub sets-part : (l xs ys : List ℕ) (at k : ℕ) → at + k ≤ length l → xs ≡ ys → length ys ≡ k → put_mid at k l xs ≡ sets l at ys
+sets-part l xs ys at k fit e n =
+    let fit' : at + length ys ≤ length l = omega arith in
+    rw (e, drop-drop k at l, ← n) (sym (sets-eq ys l at fit' ∙ append_assoc (take at l) ys (drop (at + length ys) l)))
 
--- the same in the terms of their loops, which count down
-pub put-again : (l l' : List ℕ) (at i v : ℕ) → 0 < i → l' ≡ set l (at + (i - 1)) (v % 256) → sets l' at (be_of (i - 1) (v / 256)) ≡ sets l at (be_of i v)
-put-again l l' at zero v h e = elim h [ ]
-put-again l l' at (suc i) v h e =
-    let m : suc i - 1 ≡ i = omega arith in
-    rw (e, m) (sym (put-turn l at i v))
+-- the same of what the slice has room for
+pub sets_short : (l xs ys : List ℕ) (at k n : ℕ) → at ≤ length l → k ≡ n → n ≡ min (length ys) (length l - at) → xs ≡ take n ys → put_mid at k l xs ≡ sets l at ys
+sets_short l xs ys at k n le ek en e =
+    let len : length (take n ys) ≡ k = length-take-le n ys (omega arith) ∙ sym ek in
+    let past : 0 < length (drop n ys) → length (sets l at (take n ys)) ≤ at + length (take n ys) = λ h. omega (arith, length-drop n ys, length-sets l at (take n ys)) in
+    sets-part l xs (take n ys) at k (omega arith) e len
+    ∙ sym (ap (sets l at) (sym (take-append-drop n ys)) ∙ sets-append l at (take n ys) (drop n ys) ∙ sets-over (sets l at (take n ys)) (drop n ys) (at + length (take n ys)) past)
+
+-- the octets of a number are its bytes as the language has them, the highest first
+pub be_of-bytes : (n v : ℕ) → bytes_high_first n v ≡ be_of n v
+unfolding be_of
+be_of-bytes zero v = refl
+be_of-bytes (suc n) v = byte-last n v ∙ ap (λ (l : List ℕ). l ++ (v % 256 ∷ [])) (be_of-bytes n (v / 256))
 
 -- ---- write, then read
 
@@ -177,18 +158,6 @@ be-sets l at n v h fit =
 -- two runs of stores, the second right after the first, n octets on
 pub sets_then : (l : List ℕ) (at n : ℕ) (a b : List ℕ) → length a ≡ n → sets l at (a ++ b) ≡ sets (sets l at a) (at + n) b
 sets_then l at n a b e = sets-append l at a b ∙ ap (λ (k : ℕ). sets (sets l at a) (at + k) b) e
-
--- one octet of a run of stores, in the terms of a loop that counts up
-pub sets-step : (l l' : List ℕ) (at i : ℕ) (src : List ℕ) → i < length src → l' ≡ set l (at + i) (get_or src i 0) → sets l' (at + (i + 1)) (drop (i + 1) src) ≡ sets l (at + i) (drop i src)
-sets-step l l' at i src h e =
-    let n : suc (at + i) ≡ at + (i + 1) = omega arith in
-    rw (drop-cons src i 0 h, e, ← n, add-one)
-
-pub zeros-step : (l l' : List ℕ) (at i n : ℕ) → i < n → l' ≡ set l (at + i) 0 → sets l' (at + (i + 1)) (replicate (n - (i + 1)) 0) ≡ sets l (at + i) (replicate (n - i) 0)
-zeros-step l l' at i n h e =
-    let m : n - i ≡ suc (n - (i + 1)) = omega arith in
-    let k : suc (at + i) ≡ at + (i + 1) = omega arith in
-    rw (m, e, ← k)
 
 -- ---- read, then write
 

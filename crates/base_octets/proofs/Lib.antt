@@ -1,5 +1,4 @@
 -- The laws that the layers above cite.
 pub mod Fields
 pub mod Laws
-pub mod Putting
 pub mod Stores

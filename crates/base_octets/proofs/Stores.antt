@@ -36,17 +36,9 @@ module _ {A : Type 0} (f : A → List ℕ) (n : ℕ) (len : (x : A) → length (
   length_runs [] = omega arith
   length_runs (x ∷ xs) = length-append (f x) (runs_of f xs) ∙ omega (arith, len x, length_runs xs)
 
-  -- one of the first m of an array, in the terms of a loop that counts up
-  pub runs-step : (l l' : List ℕ) (at i m : ℕ) (xs : List A) (d : A) → i < m → m ≤ length xs → l' ≡ sets l (at + i * n) (f (get_or xs i d))
-      → sets l' (at + (i + 1) * n) (runs_of f (drop (i + 1) (take m xs))) ≡ sets l (at + i * n) (runs_of f (drop i (take m xs)))
-  runs-step l l' at i m xs d h k e =
-      let fit : i < length (take m xs) = simp length-take (omega arith) in
+  -- one of them, in the terms of a loop that counts up
+  pub runs-next : (l l' : List ℕ) (at i : ℕ) (xs : List A) (d : A) → i < length xs → l' ≡ sets l (at + i * n) (f (get_or xs i d))
+      → sets l' (at + (i + 1) * n) (runs_of f (drop (i + 1) xs)) ≡ sets l (at + i * n) (runs_of f (drop i xs))
+  runs-next l l' at i xs d h e =
       let p : at + i * n + n ≡ at + (i + 1) * n = omega arith in
-      let x : l' ≡ sets l (at + i * n) (f (get_or (take m xs) i d)) = rw (get_or-take m xs i d h) e in
-      rw (
-        drop-cons (take m xs) i d fit,
-        sets_then l (at + i * n) n (f (get_or (take m xs) i d)) (runs_of f (drop (suc i) (take m xs))) (len (get_or (take m xs) i d)),
-        p,
-        x,
-        add-one,
-      )
+      rw (drop-cons xs i d h, sets_then l (at + i * n) n (f (get_or xs i d)) (runs_of f (drop (suc i) xs)) (len (get_or xs i d)), p, e, add-one)

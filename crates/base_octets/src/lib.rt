@@ -2,15 +2,9 @@
 // as 0 and is not written.
 #![tactic(auto)]
 
-ghost use Rattle.std.specs.Prelude.{◌≡◌, ◌+◌, ◌≤◌, get_or, length, set};
+ghost use Rattle.std.specs.Prelude.{◌≡◌, ◌+◌, ◌<◌, ℕ, get_or, length, set};
 ghost use Rattle.std.proofs.lemmas.List.Edits.{sets};
 ghost use Rattle.base_octets.specs.Number.{be_at, be_of};
-
-fn wide(x: u8) -> u64
-    ensures { result ≡ x }
-{
-    x as u64
-}
 
 pub fn octet(s: &[u8], at: usize) -> u8
     ensures { result ≡ get_or s.now at 0 }
@@ -18,77 +12,47 @@ pub fn octet(s: &[u8], at: usize) -> u8
     if at < s.len() { s[at] } else { 0 }
 }
 
-// Where all n octets are there, one test does for them.
-fn within(s: &[u8], at: usize, n: usize) -> u64
-    requires { (n ≤ 8) × (at + n ≤ length s.now) }
-    ensures { result ≡ be_at s.now at n }
+// The N octets from `at` of a slice that may end before.
+fn cut<const N: usize>(s: &[u8], at: usize) -> [u8; N]
+    ensures { (i : ℕ) → i < N → get_or result i 0 ≡ get_or s.now (at + i) 0 }
 {
-    let mut v: u64 = 0;
-    let mut i = 0;
-    while i < n {
-        v = v * 256 + wide(s[at + i]);
-        i += 1;
-    }
-    v
-}
-
-fn across(s: &[u8], at: usize, n: usize) -> u64
-    requires { n ≤ 8 }
-    ensures { result ≡ be_at s.now at n }
-{
-    if s.len() <= at {
-        return 0;
-    }
-    let mut v: u64 = 0;
-    let mut i = 0;
-    while i < n {
-        v = v * 256 + wide(octet(s, at + i));
-        i += 1;
-    }
-    v
-}
-
-fn be(s: &[u8], at: usize, n: usize) -> u64
-    requires { n ≤ 8 }
-    ensures { result ≡ be_at s.now at n }
-{
+    let mut a = [0; N];
     if at < s.len() {
-        if n <= s.len() - at {
-            return within(s, at, n);
-        }
+        let n = N.min(s.len() - at);
+        a[..n].copy_from_slice(&s[at..at + n]);
     }
-    across(s, at, n)
+    a
 }
 
+// The N octets from `at`. Where all are there, one test does for them.
+fn octets<const N: usize>(s: &[u8], at: usize) -> [u8; N]
+    ensures { (i : ℕ) → i < N → get_or result i 0 ≡ get_or s.now (at + i) 0 }
+{
+    if at < s.len() && N <= s.len() - at {
+        let mut a = [0; N];
+        a.copy_from_slice(&s[at..at + N]);
+        return a;
+    }
+    cut(s, at)
+}
+
+// A function for each width, here and below: by a trait of numbers each would take an impl, and a call would still name its width.
 pub fn u16_at(s: &[u8], at: usize) -> u16
     ensures { result ≡ be_at s.now at 2 }
 {
-    be(s, at, 2) as u16
+    u16::from_be_bytes(octets(s, at))
 }
 
 pub fn u32_at(s: &[u8], at: usize) -> u32
     ensures { result ≡ be_at s.now at 4 }
 {
-    be(s, at, 4) as u32
-}
-
-// Eight octets that are there, as two numbers of four: each is one load.
-fn halves(s: &[u8], at: usize) -> u64
-    requires { at + 8 ≤ length s.now }
-    ensures { result ≡ be_at s.now at 8 }
-{
-    within(s, at, 4) * 4294967296 + within(s, at + 4, 4)
+    u32::from_be_bytes(octets(s, at))
 }
 
 pub fn u64_at(s: &[u8], at: usize) -> u64
     ensures { result ≡ be_at s.now at 8 }
 {
-    if at < s.len() {
-        if 8 <= s.len() - at {
-            return halves(s, at);
-        }
-    }
-    across(s, at, 8)
+    u64::from_be_bytes(octets(s, at))
 }
 
 pub fn put_octet(out: &mut [u8], at: usize, x: u8)
@@ -99,63 +63,41 @@ pub fn put_octet(out: &mut [u8], at: usize, x: u8)
     }
 }
 
-// Where there is room for all n octets, one test does for them.
-fn put_within(out: &mut [u8], at: usize, n: usize, v: u64)
-    requires { (n ≤ 8) × (at + n ≤ length out.old) }
-    ensures { out.new ≡ sets out.old at (be_of n v) }
-{
-    let mut rest = v;
-    let mut i = n;
-    while 0 < i {
-        i -= 1;
-        out[at + i] = (rest % 256) as u8;
-        rest = rest / 256;
-    }
-}
-
-fn put_across(out: &mut [u8], at: usize, n: usize, v: u64)
-    requires { n ≤ 8 }
-    ensures { out.new ≡ sets out.old at (be_of n v) }
-{
-    if out.len() <= at {
-        return;
-    }
-    let mut rest = v;
-    let mut i = n;
-    while 0 < i {
-        i -= 1;
-        put_octet(out, at + i, (rest % 256) as u8);
-        rest = rest / 256;
-    }
-}
-
-fn put(out: &mut [u8], at: usize, n: usize, v: u64)
-    requires { n ≤ 8 }
-    ensures { out.new ≡ sets out.old at (be_of n v) }
+// As many of the octets as there is room for.
+pub fn put_all(out: &mut [u8], at: usize, src: &[u8])
+    ensures { out.new ≡ sets out.old at src.now }
 {
     if at < out.len() {
-        if n <= out.len() - at {
-            put_within(out, at, n, v);
-            return;
-        }
+        let n = src.len().min(out.len() - at);
+        out[at..at + n].copy_from_slice(&src[..n]);
     }
-    put_across(out, at, n, v);
+}
+
+// The octets from `at`. Where there is room for all, one test does for them.
+fn put<const N: usize>(out: &mut [u8], at: usize, octets: [u8; N])
+    ensures { out.new ≡ sets out.old at octets.entry }
+{
+    if at < out.len() && N <= out.len() - at {
+        out[at..at + N].copy_from_slice(&octets);
+        return;
+    }
+    put_all(out, at, &octets);
 }
 
 pub fn put_u16(out: &mut [u8], at: usize, v: u16)
     ensures { out.new ≡ sets out.old at (be_of 2 v) }
 {
-    put(out, at, 2, v as u64);
+    put(out, at, v.to_be_bytes());
 }
 
 pub fn put_u32(out: &mut [u8], at: usize, v: u32)
     ensures { out.new ≡ sets out.old at (be_of 4 v) }
 {
-    put(out, at, 4, v as u64);
+    put(out, at, v.to_be_bytes());
 }
 
 pub fn put_u64(out: &mut [u8], at: usize, v: u64)
     ensures { out.new ≡ sets out.old at (be_of 8 v) }
 {
-    put(out, at, 8, v);
+    put(out, at, v.to_be_bytes());
 }

@@ -2,6 +2,7 @@
 use Prim.Native.Nat.{ℕ, ◌+◌, ◌*◌, ◌/◌, ◌%◌, ◌^◌, ◌<◌}
 use mathlib.Core.Path.{◌≡◌, refl, ap, ap₂, sym, ◌∙◌}
 use mathlib.Core.Bool.{Bool, true, false}
+use mir.Val.{bool_byte}
 use native.Mathlib.Omega.{arith}
 use lib.Dec.{eqb}
 use lib.Bits.{bit_and, bit_or, and_mask, or_shifted}
@@ -18,6 +19,11 @@ use Rattle.base_packed.specs.declared.sak.SakFlags.{SakFlags}
 -- `|` of parts that do not overlap is their sum
 pub or-low : (k a b m : ℕ) → m ≡ a * 2 ^ k → b < 2 ^ k → bit_or m b ≡ m + b
 or-low k a b m e h = ap (λ (x : ℕ). bit_or x b) e ∙ or_shifted a k b h ∙ ap (λ (x : ℕ). x + b) (sym e)
+
+-- a flag that is cast to a number
+pub byte-bit : (x : Bool) → bool_byte x ≡ bit x
+byte-bit true = refl
+byte-bit false = refl
 
 pub bit-lt : (x : Bool) → bit x < 2
 bit-lt true = omega arith

@@ -2,10 +2,8 @@
 ghost use Rattle.std.specs.Prelude.{◌≡◌};
 ghost use Rattle.base_packed.specs.Basic.{flags_of, octet_of};
 
-use crate::bit;
-
 // `high` holds the high four bits of the set's length.
-#[derive(Clone, Copy)]
+#[derive(Clone, Copy, PartialEq, Eq)]
 pub struct Flags {
     pub server: bool,
     pub desired: bool,
@@ -13,22 +11,26 @@ pub struct Flags {
     pub high: u8,
 }
 
-pub fn unpack(b: u8) -> Flags
-    ensures { result ≡ flags_of b }
-{
-    Flags {
-        server: b >> 7 == 1,
-        desired: (b >> 6) & 1 == 1,
-        capability: (b >> 4) & 3,
-        high: b & 15,
+impl From<u8> for Flags {
+    ghost from_gives = { λ b f. f ≡ flags_of b };
+
+    fn from(b: u8) -> Flags {
+        Flags {
+            server: b >> 7 == 1,
+            desired: (b >> 6) & 1 == 1,
+            capability: (b >> 4) & 3,
+            high: b & 15,
+        }
     }
 }
 
-pub fn pack(f: Flags) -> u8
-    ensures { result ≡ octet_of f }
-{
-    (bit::bit_of(f.server) << 7)
-        | (bit::bit_of(f.desired) << 6)
-        | ((f.capability & 3) << 4)
-        | (f.high & 15)
+impl From<Flags> for u8 {
+    ghost from_gives = { λ f b. b ≡ octet_of f };
+
+    fn from(f: Flags) -> u8 {
+        ((f.server as u8) << 7)
+            | ((f.desired as u8) << 6)
+            | ((f.capability & 3) << 4)
+            | (f.high & 15)
+    }
 }

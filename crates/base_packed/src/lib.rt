@@ -2,6 +2,5 @@
 #![tactic(auto)]
 
 pub mod basic;
-pub mod bit;
 pub mod sak;
 pub mod used;

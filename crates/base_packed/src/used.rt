@@ -2,16 +2,14 @@
 ghost use Rattle.std.specs.Prelude.{◌≡◌};
 ghost use Rattle.base_packed.specs.Used.{key_flags_of, key_nibble, used_of, used_octet};
 
-use crate::bit;
-
-#[derive(Clone, Copy)]
+#[derive(Clone, Copy, PartialEq, Eq)]
 pub struct KeyFlags {
     pub an: u8,
     pub transmit: bool,
     pub receive: bool,
 }
 
-#[derive(Clone, Copy)]
+#[derive(Clone, Copy, PartialEq, Eq)]
 pub struct Used {
     pub latest: KeyFlags,
     pub old: KeyFlags,
@@ -30,22 +28,24 @@ fn unpack_key(n: u8) -> KeyFlags
 fn pack_key(f: KeyFlags) -> u8
     ensures { result ≡ key_nibble f }
 {
-    ((f.an & 3) << 2) | (bit::bit_of(f.transmit) << 1) | bit::bit_of(f.receive)
+    ((f.an & 3) << 2) | ((f.transmit as u8) << 1) | f.receive as u8
 }
 
-pub fn unpack(b: u8) -> Used
-    ensures { result ≡ used_of b }
-{
-    Used {
-        latest: unpack_key(b >> 4),
-        old: unpack_key(b & 15),
+impl From<u8> for Used {
+    ghost from_gives = { λ b u. u ≡ used_of b };
+
+    fn from(b: u8) -> Used {
+        Used {
+            latest: unpack_key(b >> 4),
+            old: unpack_key(b & 15),
+        }
     }
 }
 
-pub fn pack(u: Used) -> u8
-    ensures { result ≡ used_octet u }
-{
-    let latest = u.latest;
-    let old = u.old;
-    (pack_key(latest) << 4) | pack_key(old)
+impl From<Used> for u8 {
+    ghost from_gives = { λ u b. b ≡ used_octet u };
+
+    fn from(u: Used) -> u8 {
+        (pack_key(u.latest) << 4) | pack_key(u.old)
+    }
 }

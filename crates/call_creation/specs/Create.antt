@@ -39,6 +39,6 @@ unfoldable pub empty_participant : Participant
 empty_participant = fresh 0 (record { hi = 0; lo = 0 }) 0 0 0 false []
 
 -- Create: 15.
-unfoldable pub created_of : ℕ → Mi → ℕ → ℕ → ℕ → Bool → List ℕ → Called
+unfoldable pub created_of : ℕ → Mi → ℕ → ℕ → ℕ → Bool → List ℕ → Called (Unit {0})
 created_of time mi sci priority capability desired ckn =
     settle empty_participant ((15, bad_start (length ckn) capability) ∷ []) (fresh time mi sci priority capability desired ckn)

@@ -43,5 +43,5 @@ distribute_facts p time wrapped =
     ∷ (14, eqb p.kn last_number)
     ∷ []
 
-unfoldable pub distributed_of : Participant → ℕ → List ℕ → Called
+unfoldable pub distributed_of : Participant → ℕ → List ℕ → Called (Unit {0})
 distributed_of p time wrapped = settle p (distribute_facts p time wrapped) (with_fresh (aged_to p time) (first24 wrapped))

@@ -2,83 +2,77 @@
 #![tactic(auto)]
 
 ghost use Rattle.std.specs.Prelude.{◌≡◌, ◌<◌};
-ghost use Rattle.participant.specs.Record.{first24};
 ghost use Rattle.call_distribute.specs.Distribute.{next_an, confidentiality_of, fresh_key, with_fresh, distributed_of};
 
-use base_facts::Check;
+use base_facts::Refusal;
 use participant::call::Called;
 use participant::{Key, Participant, Slot, call, keys};
 
-fn next_an(latest: Slot) -> u8
-    ensures { result ≡ next_an latest }
+#[tactic(auto, unfolding(crate::specs::Distribute::next_an))]
+fn next_an(latest: &Slot) -> u8
+    ensures { result ≡ next_an latest.now }
 {
     if latest.held {
-        let k = latest.key;
-        return (k.an % 4 + 1) % 4;
+        (latest.key.an % 4 + 1) % 4
+    } else {
+        0
     }
-    0
 }
 
+#[tactic(auto, unfolding(crate::specs::Distribute::confidentiality_of))]
 fn confidentiality_of(capability: u8) -> u8
     ensures { result ≡ confidentiality_of capability }
 {
     if capability == 1 { 0 } else { 1 }
 }
 
-fn fresh_key(p: Participant) -> Key
-    requires { p.kn < 4294967295 }
-    ensures { result ≡ fresh_key p }
+#[tactic(auto, unfolding(crate::specs::Distribute::fresh_key))]
+fn fresh_key(p: &Participant) -> Key
+    requires { p.now.kn < u32.MAX }
+    ensures { result ≡ fresh_key p.now }
 {
-    let mi = p.mi;
-    let latest = p.latest;
     Key {
-        mi,
+        mi: p.mi,
         kn: p.kn + 1,
         suite: 0,
-        an: next_an(latest),
+        an: next_an(&p.latest),
         confidentiality: confidentiality_of(p.capability),
         receive: false,
         transmit: false,
     }
 }
 
-// The octets of a wrapped key, zeros past its end.
-fn first_24(s: &[u8]) -> [u8; 24]
-    ensures { result ≡ first24 s.now }
-{
-    let mut out = [0u8; 24];
-    base_runs::put_all(&mut out, 0, s);
-    out
-}
-
+#[tactic(auto, unfolding(crate::specs::Distribute::with_fresh, crate::specs::Distribute::fresh_key))]
 fn with_fresh(p: Participant, wrapped: [u8; 24]) -> Participant
-    requires { p.kn < 4294967295 }
+    requires { p.kn < u32.MAX }
     ensures { result ≡ with_fresh p wrapped }
 {
-    let k = fresh_key(p);
-    let mut q = keys::with_key(p, k);
-    q.kn = p.kn + 1;
-    q.mark = false;
-    q.distributed = p.clock;
-    q.wrapped = wrapped;
-    q
+    let key = fresh_key(&p);
+    Participant {
+        kn: key.kn,
+        mark: false,
+        distributed: p.clock,
+        wrapped,
+        ..keys::with_key(p, key)
+    }
 }
 
-pub fn distribute(p: Participant, time: u64, wrapped: &[u8]) -> Called
+#[tactic(auto, unfolding(crate::specs::Distribute::distributed_of, participant::specs::Call::aged_to))]
+pub fn distribute(p: Participant, time: u64, wrapped: &[u8]) -> Called<()>
     ensures { result ≡ distributed_of p time wrapped.now }
 {
-    let Check::Passed = base_facts::fail_if(time < p.clock) else {
-        return call::refused(p, 1);
+    let Some(()) = base_facts::fail_if(time < p.clock) else {
+        return call::refused(p, Refusal::Early);
     };
-    let Check::Passed = base_facts::fail_if(wrapped.len() != 24) else {
-        return call::refused(p, 15);
+    let Some(()) = base_facts::fail_if(wrapped.len() != 24) else {
+        return call::refused(p, Refusal::BadStart);
     };
     let q = call::aged_to(p, time);
-    let Check::Passed = base_facts::fail_if(!call_standing::fresh_due(q)) else {
-        return call::refused(p, 17);
+    let Some(()) = base_facts::fail_if(!call_standing::fresh_due(&q)) else {
+        return call::refused(p, Refusal::NotDue);
     };
-    let Check::Passed = base_facts::fail_if(p.kn == 4294967295) else {
-        return call::refused(p, 14);
+    let Some(()) = base_facts::fail_if(p.kn == u32::MAX) else {
+        return call::refused(p, Refusal::Spent);
     };
-    call::done(with_fresh(q, first_24(wrapped)))
+    call::accepted(with_fresh(q, base_runs::first(wrapped)), ())
 }

@@ -1,5 +1,5 @@
 -- "A type 4 set is used only if its sender is elected after this frame's update; otherwise it is ignored and the frame still accepted."
-use Rattle.std.specs.Prelude.{ℕ, Bool, false, cond, not, ◌||◌, ◌&&◌, List, ltb, eqb}
+use Rattle.std.specs.Prelude.{ℕ, Bool, false, cond, not, ◌||◌, ◌&&◌, List, ltb, eqb, Option, Some, None}
 use Rattle.base_mi.specs.Mi.{mi_same}
 use Rattle.base_mi.specs.declared.Mi.{Mi}
 use Rattle.table_election.specs.declared.Server.{Server}
@@ -12,6 +12,7 @@ use Rattle.participant.specs.Keys.{no_slot, slot_of, of_member, is_key, with_key
 use Rattle.participant.specs.declared.Key.{Key}
 use Rattle.participant.specs.declared.Slot.{Slot}
 use Rattle.participant.specs.declared.Participant.{Participant}
+use Rattle.call_hearing.specs.declared.keys.Wrapped.{Wrapped}
 use Rattle.call_hearing.specs.declared.keys.Taken.{Taken}
 
 -- the elected one is the peer m
@@ -43,40 +44,44 @@ key_from m h =
       transmit = false;
     }
 
+-- "0 and 0 if no key was entered"
+abbrev pub no_key : Wrapped
+no_key = record { place = 0; len = 0 }
+
+-- "The answer gives the wrapped key's place and length"
+abbrev pub wrapped_in : SakHeader → Wrapped
+wrapped_in h = record { place = h.place; len = h.len }
+
 -- What the participant becomes, and the wrapped key's place and length.
 pub record Keyed : Type 0 where
   pub participant : Participant
-  pub place : ℕ
-  pub len : ℕ
+  pub wrapped : Wrapped
 
--- "0 and 0 if no key was entered"
 abbrev pub no_key_entered : Participant → Keyed
-no_key_entered p = record { participant = p; place = 0; len = 0 }
+no_key_entered p = record { participant = p; wrapped = no_key }
 
--- "The answer gives the wrapped key's place and length"
 abbrev pub key_entered : Participant → Mi → SakHeader → Keyed
-key_entered p m h = record { participant = with_key p (key_from m h); place = h.place; len = h.len }
+key_entered p m h = record { participant = with_key p (key_from m h); wrapped = wrapped_in h }
 
 -- "Empty body: both keys dropped. Otherwise it is ignored if ..; else latest becomes old and this becomes latest"
-unfoldable pub keyed_of : Participant → List ℕ → Mi → Spot → Keyed
-keyed_of p s m sak =
-    cond (not sak.present) (no_key_entered p)
-    (cond (not (is_server p m)) (no_key_entered p)
+unfoldable pub keyed_of : Participant → List ℕ → Mi → Option Spot → Keyed
+keyed_of p s m None = no_key_entered p
+keyed_of p s m (Some sak) =
+    cond (not (is_server p m)) (no_key_entered p)
     (cond (eqb sak.len 0) (no_key_entered (without_keys p))
     (cond (is_known p m (sak_in s sak.place sak.len).kn) (no_key_entered p)
-    (key_entered p m (sak_in s sak.place sak.len)))))
+    (key_entered p m (sak_in s sak.place sak.len))))
 
 -- ---- the same of the two keys by themselves, with who is elected (the law is `keyed-taken`, proofs/Taken)
 
 -- No key entered: the slots as given, "0 and 0".
 abbrev pub none_taken : Slot → Slot → Taken
-none_taken latest old = record { latest = latest; old = old; place = 0; len = 0 }
+none_taken latest old = record { latest = latest; old = old; wrapped = no_key }
 
-unfoldable pub taken_of : Server → Slot → Slot → List ℕ → Mi → Spot → Taken
-taken_of server latest old s m sak =
-    let h = sak_in s sak.place sak.len in
-    cond (not sak.present) (none_taken latest old)
-    (cond (not (is_peer server m)) (none_taken latest old)
+unfoldable pub taken_of : Server → Slot → Slot → List ℕ → Mi → Option Spot → Taken
+taken_of server latest old s m None = none_taken latest old
+taken_of server latest old s m (Some sak) =
+    cond (not (is_peer server m)) (none_taken latest old)
     (cond (eqb sak.len 0) (none_taken no_slot no_slot)
-    (cond (known_by latest old m h.kn) (none_taken latest old)
-    (record { latest = slot_of (key_from m h); old = latest; place = h.place; len = h.len }))))
+    (cond (known_by latest old m (sak_in s sak.place sak.len).kn) (none_taken latest old)
+    (record { latest = slot_of (key_from m (sak_in s sak.place sak.len)); old = latest; wrapped = wrapped_in (sak_in s sak.place sak.len) })))

@@ -1,5 +1,5 @@
 -- "It is a proof if its Live or Potential list has any entry with our MI and an MN that is recent."
-use Rattle.std.specs.Prelude.{ℕ, ◌-◌, Bool, false, not, ◌||◌, ◌&&◌, List, [], ◌∷◌, ltb, leb, eqb}
+use Rattle.std.specs.Prelude.{ℕ, ◌-◌, Bool, false, not, ◌||◌, ◌&&◌, List, [], ◌∷◌, ltb, leb, eqb, Option, Some, None}
 use Rattle.base_mi.specs.Mi.{mi_same}
 use Rattle.base_mi.specs.declared.Mi.{Mi}
 use Rattle.base_mi.specs.declared.entry.Entry.{Entry}
@@ -20,8 +20,10 @@ abbrev pub any_recent : Mi → ℕ → List Entry → Bool
 any_recent own last [] = false
 any_recent own last (e ∷ es) = (mi_same e.mi own && is_recent e.mn last) || any_recent own last es
 
-unfoldable pub named_in : List ℕ → Spot → Mi → ℕ → Bool
-named_in s list own last = any_recent own last (entries_in s list.place list.len)
+-- so of a list, if the frame has it
+unfoldable pub named_in : List ℕ → Option Spot → Mi → ℕ → Bool
+named_in s None own last = false
+named_in s (Some list) own last = any_recent own last (entries_in s list.place list.len)
 
 unfoldable pub proves_in : List ℕ → Places → Mi → ℕ → Bool
 proves_in s w own last = named_in s w.live own last || named_in s w.potential own last

@@ -5,59 +5,37 @@ ghost use Rattle.call_hearing.specs.Proof.{is_recent, named_in, proves_in};
 use base_mi::Mi;
 use frame_places::{Places, Spot};
 use frame_walk::list;
-use frame_walk::list::Found;
 
 // How many of the last numbers sent are recent.
 const LAST: u32 = 4;
 
 // `last` is the last number sent.
+#[tactic(auto, unfolding(crate::specs::Proof::is_recent))]
 pub fn recent(mn: u32, last: u32) -> bool
     ensures { result ≡ is_recent mn last }
 {
-    if mn == 0 {
-        return false;
-    }
-    if last < mn {
-        return false;
-    }
-    last - mn < LAST
+    mn != 0 && mn <= last && last - mn < LAST
 }
 
-// The list gone through for entries with our identifier and a recent number.
-fn searched(frame: &[u8], list: Spot, own: Mi, last: u32) -> bool
-    ensures { result ≡ named_in frame.now list own last }
+// Whether the list at a place has an entry with our identifier and a recent number.
+fn named(frame: &[u8], list: Spot, own: Mi, last: u32) -> bool
+    ensures { result ≡ named_in frame.now (Some list) own last }
 {
-    let place = list.place;
-    let len = list.len;
-    let mut i = 0;
-    loop {
-        let Found::At(j, mn) = list::find(frame, place, len, i, own) else {
-            return false;
-        };
-        if recent(mn, last) {
+    let mut from = 0;
+    while let Some(found) = list::find(frame, list.place, list.len, from, own) {
+        if recent(found.mn, last) {
             return true;
         }
-        i = j + 1;
+        from = found.index + 1;
     }
+    false
 }
 
-// Whether a list has an entry with our identifier and a recent number.
-fn named(frame: &[u8], list: Spot, own: Mi, last: u32) -> bool
-    ensures { result ≡ named_in frame.now list own last }
+#[tactic(auto, unfolding(crate::specs::Proof::proves_in, crate::specs::Proof::named_in))]
+pub fn proves(frame: &[u8], w: &Places, own: Mi, last: u32) -> bool
+    ensures { result ≡ proves_in frame.now w.now own last }
 {
-    if list.len == 0 {
-        return false;
-    }
-    searched(frame, list, own, last)
-}
-
-pub fn proves(frame: &[u8], w: Places, own: Mi, last: u32) -> bool
-    ensures { result ≡ proves_in frame.now w own last }
-{
-    let live = w.live;
-    let potential = w.potential;
-    if named(frame, live, own, last) {
-        return true;
-    }
-    named(frame, potential, own, last)
+    w.live.is_some_and(|list| named(frame, list, own, last))
+        || w.potential
+            .is_some_and(|list| named(frame, list, own, last))
 }

@@ -1,66 +1,50 @@
 // What a received frame is refused for before the table is asked, facts 1 to 9: the time, the frame and its verdict.
 #![tactic(auto)]
 
-ghost use Rattle.std.specs.Prelude.{◌≡◌, not, [], ◌∷◌};
+ghost use Rattle.std.specs.Prelude.{◌≡◌};
 ghost use Rattle.base_facts.specs.Facts.{first_of};
-ghost use Rattle.frame.specs.Ours.{fact6, fact7};
-ghost use Rattle.call_judge.specs.Judge.{number_of, judged_of};
+ghost use Rattle.base_facts.specs.Refusal.{told};
+ghost use Rattle.call_judge.specs.Judge.{foreign_facts, judged_of};
 
-use base_facts::Check;
-use frame::{Basic, BasicRead, ours};
+use base_facts::Refusal;
+use frame::{Basic, ours};
 use frame_places::Places;
-use frame_walk::Walked;
 use participant::Participant;
 
+// A good frame's Basic set, and where its further sets stand.
 #[derive(Clone, Copy)]
-pub enum Judged {
-    Good(Basic, Places),
-    Refused(u8),
+pub struct Judged {
+    pub basic: Basic,
+    pub places: Places,
 }
 
-fn number(r: BasicRead) -> u8
-    ensures { result ≡ number_of r }
+// Facts 6 to 8.
+fn foreign(frame: &[u8], b: &Basic, ckn: &[u8], verdict: bool) -> Result<(), Refusal>
+    ensures { result ≡ told (first_of (foreign_facts frame.now b.now ckn.now verdict)) tt }
 {
-    match r {
-        BasicRead::Refused(n) => n,
-        BasicRead::Read(_) => 0,
-    }
+    let Some(()) = ours::name_ours(frame, b, ckn) else {
+        return Err(Refusal::OtherCkn);
+    };
+    let Some(()) = ours::agility_ours(b) else {
+        return Err(Refusal::OtherAgility);
+    };
+    let Some(()) = base_facts::fail_if(!verdict) else {
+        return Err(Refusal::Unverified);
+    };
+    Ok(())
 }
 
-// The first fact of 6 to 8 that holds, 0 where none does.
-fn foreign(frame: &[u8], b: Basic, ckn: &[u8], verdict: bool) -> u8
-    ensures { result ≡ first_of ((6, fact6 frame.now b ckn.now) ∷ (7, fact7 b) ∷ (8, not verdict) ∷ []) }
+#[tactic(auto, unfolding(crate::specs::Judge::judged_of, crate::specs::Judge::frame_facts))]
+pub fn judge(p: &Participant, time: u64, verdict: bool, frame: &[u8]) -> Result<Judged, Refusal>
+    ensures { result ≡ judged_of p.now time verdict frame.now }
 {
-    let Check::Passed = ours::name_ours(frame, b, ckn) else {
-        return 6;
+    let Some(()) = base_facts::fail_if(time < p.clock) else {
+        return Err(Refusal::Early);
     };
-    let Check::Passed = ours::agility_ours(b) else {
-        return 7;
+    let basic = frame::read_basic(frame)?;
+    foreign(frame, &basic, &p.ckn[..p.size.min(32)], verdict)?;
+    let Ok(places) = frame_walk::walk(frame, basic.next, basic.stop) else {
+        return Err(Refusal::BadSet);
     };
-    let Check::Passed = base_facts::fail_if(!verdict) else {
-        return 8;
-    };
-    0
-}
-
-pub fn judge(p: Participant, time: u64, verdict: bool, frame: &[u8]) -> Judged
-    ensures { result ≡ judged_of p time verdict frame.now }
-{
-    let Check::Passed = base_facts::fail_if(time < p.clock) else {
-        return Judged::Refused(1);
-    };
-    let r = frame::read_basic(frame);
-    let BasicRead::Read(b) = r else {
-        return Judged::Refused(number(r));
-    };
-    let ckn = p.ckn;
-    let n = base_facts::at_most(p.size, 32);
-    let x = foreign(frame, b, &ckn[..n], verdict);
-    if x != 0 {
-        return Judged::Refused(x);
-    }
-    let Walked::End(w) = frame_walk::walk(frame, b.next, b.stop) else {
-        return Judged::Refused(9);
-    };
-    Judged::Good(b, w)
+    Ok(Judged { basic, places })
 }

@@ -6,7 +6,7 @@ ghost use Rattle.std.proofs.lemmas.List.Edits.{sets};
 ghost use Rattle.call_lists.specs.Lists.{list_type, peer_list};
 
 use base_mi::entry;
-use table::{ROOM, Table};
+use table::Table;
 
 fn kind(live: bool) -> u8
     ensures { result ≡ list_type live }
@@ -15,21 +15,16 @@ fn kind(live: bool) -> u8
 }
 
 // The place after the list, which is not written if it is empty. Its entries first: then their number is known.
-pub fn put_list(out: &mut [u8], at: u16, t: Table, live: bool) -> usize
-    ensures { (result ≡ at + length (peer_list live t)) × (out.new ≡ sets out.old at (peer_list live t)) }
+pub fn put_list(out: &mut [u8], at: u16, t: &Table, live: bool) -> usize
+    ensures { (result ≡ at + length (peer_list live t.now)) × (out.new ≡ sets out.old at (peer_list live t.now)) }
 {
-    let peers = t.peers;
-    let n = base_facts::at_most(t.count, ROOM);
     let from = at as usize;
-    let mut k: usize = 0;
-    let mut i: usize = 0;
-    while i < n {
-        let e = peers[i];
-        if table_counts::is_of(e, live) {
-            entry::put_entry(out, from + 4 + k * 16, table_counts::entry_of(e));
+    let mut k = 0;
+    for p in t.held() {
+        if table_counts::is_of(p, live) {
+            entry::put_entry(out, from + 4 + k * 16, table_counts::entry_of(p));
             k += 1;
         }
-        i += 1;
     }
     if k == 0 {
         return from;

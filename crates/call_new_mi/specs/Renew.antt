@@ -21,5 +21,5 @@ renewed p time m =
 abbrev pub new_mi_facts : Participant → ℕ → Mi → List (ℕ × Bool)
 new_mi_facts p time m = (1, fact1 p time) ∷ (19, in_use p m) ∷ []
 
-unfoldable pub new_mi_of : Participant → ℕ → Mi → Called
+unfoldable pub new_mi_of : Participant → ℕ → Mi → Called (Unit {0})
 new_mi_of p time m = settle p (new_mi_facts p time m) (renewed p time m)

@@ -4,51 +4,46 @@
 ghost use Rattle.std.specs.Prelude.{◌≡◌};
 ghost use Rattle.call_new_mi.specs.Renew.{in_use, renewed, new_mi_of};
 
-use base_facts::Check;
+use base_facts::Refusal;
 use base_mi::Mi;
 use participant::call::Called;
 use participant::{Participant, call, keys};
 
 // Fact 19.
-fn is_in_use(p: Participant, m: Mi) -> bool
-    ensures { result ≡ in_use p m }
+#[tactic(auto, unfolding(crate::specs::Renew::in_use))]
+fn is_in_use(p: &Participant, m: Mi) -> bool
+    ensures { result ≡ in_use p.now m }
 {
-    let own = p.mi;
-    let latest = p.latest;
-    let old = p.old;
-    if base_mi::same_mi(own, m) {
-        return true;
-    }
-    if keys::of_member(latest, m) {
-        return true;
-    }
-    keys::of_member(old, m)
+    p.mi == m || keys::of_member(&p.latest, m) || keys::of_member(&p.old, m)
 }
 
+#[tactic(auto, unfolding(crate::specs::Renew::renewed))]
 fn renew(p: Participant, time: u64, m: Mi) -> Participant
     ensures { result ≡ renewed p time m }
 {
-    let mut q = p;
-    q.mi = m;
-    q.mn = 0;
-    q.kn = 0;
-    q.mark = false;
-    q.wrapped = [0u8; 24];
-    q.sent = 0;
-    q.distributed = 0;
-    q.table = table::empty();
-    q.clock = time;
-    q
+    Participant {
+        table: table::empty(),
+        clock: time,
+        mi: m,
+        mn: 0,
+        mark: false,
+        sent: 0,
+        kn: 0,
+        distributed: 0,
+        wrapped: [0; 24],
+        ..p
+    }
 }
 
-pub fn new_mi(p: Participant, time: u64, m: Mi) -> Called
+#[tactic(auto, unfolding(crate::specs::Renew::new_mi_of))]
+pub fn new_mi(p: Participant, time: u64, m: Mi) -> Called<()>
     ensures { result ≡ new_mi_of p time m }
 {
-    let Check::Passed = base_facts::fail_if(time < p.clock) else {
-        return call::refused(p, 1);
+    let Some(()) = base_facts::fail_if(time < p.clock) else {
+        return call::refused(p, Refusal::Early);
     };
-    let Check::Passed = base_facts::fail_if(is_in_use(p, m)) else {
-        return call::refused(p, 19);
+    let Some(()) = base_facts::fail_if(is_in_use(&p, m)) else {
+        return call::refused(p, Refusal::InUse);
     };
-    call::done(renew(p, time, m))
+    call::accepted(renew(p, time, m), ())
 }

@@ -1,4 +1,5 @@
-// The questions, which go by the clock and change nothing.
+// The questions, which go by the clock and change nothing. They take the participant by value, as every public call does (project
+// rule: state by value, in and out).
 #![tactic(auto)]
 
 ghost use Rattle.std.specs.Prelude.{◌≡◌};
@@ -17,66 +18,60 @@ fn at_clock(p: Participant) -> Participant
     call::aged_to(p, p.clock)
 }
 
+#[tactic(auto, unfolding(crate::specs::Ask::asked_server))]
 pub fn server(p: Participant) -> Server
     ensures { result ≡ asked_server p }
 {
-    call_standing::server(at_clock(p))
+    call_standing::server(&at_clock(p))
 }
 
+#[tactic(auto, unfolding(crate::specs::Ask::asked_elected))]
 pub fn elected_self(p: Participant) -> bool
     ensures { result ≡ asked_elected p }
 {
-    call_standing::elected_self(at_clock(p))
+    call_standing::elected_self(&at_clock(p))
 }
 
+#[tactic(auto, unfolding(crate::specs::Ask::asked_fresh))]
 pub fn fresh_due(p: Participant) -> bool
     ensures { result ≡ asked_fresh p }
 {
-    call_standing::fresh_due(at_clock(p))
+    call_standing::fresh_due(&at_clock(p))
 }
 
+#[tactic(auto, unfolding(crate::specs::Ask::hello_due))]
 pub fn hello_due(p: Participant) -> bool
     ensures { result ≡ hello_due p }
 {
-    if p.mn == 0 {
-        return true;
-    }
-    if p.clock < p.sent {
-        return false;
-    }
-    HELLO <= p.clock - p.sent
+    p.mn == 0 || HELLO <= p.clock.saturating_sub(p.sent)
 }
 
+#[tactic(auto, unfolding(crate::specs::Ask::asked_live))]
 pub fn is_live(p: Participant, m: Mi) -> bool
     ensures { result ≡ asked_live p m }
 {
     let q = at_clock(p);
-    let t = q.table;
-    let h = table_lookup::look(t, m);
-    table_lookup::live(h)
+    table_lookup::live(table_lookup::look(&q.table, m))
 }
 
+#[tactic(auto, unfolding(crate::specs::Ask::asked_potential))]
 pub fn is_potential(p: Participant, m: Mi) -> bool
     ensures { result ≡ asked_potential p m }
 {
     let q = at_clock(p);
-    let t = q.table;
-    let h = table_lookup::look(t, m);
-    table_lookup::potential(h)
+    table_lookup::potential(table_lookup::look(&q.table, m))
 }
 
+#[tactic(auto, unfolding(crate::specs::Ask::asked_lives))]
 pub fn live_count(p: Participant) -> usize
     ensures { result ≡ asked_lives p }
 {
-    let q = at_clock(p);
-    let t = q.table;
-    table_counts::live_count(t)
+    table_counts::live_count(&at_clock(p).table)
 }
 
+#[tactic(auto, unfolding(crate::specs::Ask::asked_potentials))]
 pub fn potential_count(p: Participant) -> usize
     ensures { result ≡ asked_potentials p }
 {
-    let q = at_clock(p);
-    let t = q.table;
-    table_counts::potential_count(t)
+    table_counts::potential_count(&at_clock(p).table)
 }

@@ -1,26 +1,16 @@
 -- The facts of a frame and of the table, in their order.
-use Prim.Native.Nat.{ℕ}
-use mathlib.Core.Path.{◌≡◌, refl, sym, ap, ◌∙◌}
-use mathlib.Core.Bool.{Bool, true, false, cond}
-use mathlib.Core.List.{List}
-use native.Mathlib.Omega.{arith}
-use lib.Dec.{eqb}
+use Rattle.std.proofs.Common.{ℕ, ◌≡◌, refl, sym, ap, ◌∙◌, List, arith}
+use borrow.Author.Tests.{eqb-false}
+use Rattle.std.specs.Prelude.{Bool, false, cond, eqb, Ok, Err}
 use Rattle.base_facts.specs.Facts.{first_of}
-use Rattle.base_facts.proofs.Laws.{first_more}
-use Rattle.frame.specs.declared.Basic.{Basic}
-use Rattle.frame_places.specs.declared.Places.{Places}
+use Rattle.base_facts.specs.Refusal.{number_of}
+use Rattle.base_facts.specs.declared.Refusal.{Refusal}
+use Rattle.base_facts.proofs.Laws.{first_more, first_known, number_refused}
 use Rattle.participant.specs.declared.Participant.{Participant}
-use Rattle.call_judge.specs.Judge.{basic_in, walk_in, places_in, frame_facts, judged_of}
+use Rattle.call_judge.specs.declared.Judged.{Judged}
+use Rattle.call_judge.specs.Judge.{basic_in, judged_in, frame_facts, judged_of}
+use Rattle.call_judge.proofs.Laws.{told-ok, told-err}
 use Rattle.call_receive.specs.Receive.{table_facts, receive_facts}
-use Rattle.call_judge.specs.declared.Judged.TheVariants as judged
-
-answer-good : (t : Bool) (n : ℕ) (x b : Basic) (y w : Places) → cond t (judged.Good x y) (judged.Refused n) ≡ judged.Good b w → (t ≡ true) × (x ≡ b) × (y ≡ w)
-answer-good true n x b y w e = (refl, cc, cc)
-answer-good false n x b y w e = let z : ◌≡◌ {A = ℕ} 0 1 = cc in absurd (omega arith)
-
-answer-bad : (t : Bool) (m n : ℕ) (x : Basic) (y : Places) → cond t (judged.Good x y) (judged.Refused m) ≡ judged.Refused n → (t ≡ false) × (m ≡ n)
-answer-bad false m n x y e = (refl, cc)
-answer-bad true m n x y e = let z : ◌≡◌ {A = ℕ} 0 1 = cc in absurd (omega arith)
 
 module _ (p : Participant) (time : ℕ) (verdict : Bool) (s : List ℕ) where
   split : first_of (receive_facts p time verdict s)
@@ -28,16 +18,19 @@ module _ (p : Participant) (time : ℕ) (verdict : Bool) (s : List ℕ) where
   unfolding receive_facts frame_facts
   split = first_more (frame_facts p time verdict s) (table_facts p time (basic_in s)) (refl, (refl, (refl, (refl, (refl, (refl, (refl, (refl, (refl, tt)))))))))
 
-  pub judged-good : (b : Basic) (w : Places) → judged_of p time verdict s ≡ judged.Good b w
-      → (first_of (receive_facts p time verdict s) ≡ first_of (table_facts p time b)) × (basic_in s ≡ b) × (places_in (walk_in s) ≡ w)
+  pub judged-good : (j : Judged) → judged_of p time verdict s ≡ Ok j
+      → (first_of (receive_facts p time verdict s) ≡ first_of (table_facts p time j.basic)) × (judged_in s ≡ j)
   unfolding judged_of
-  judged-good b w e =
-      let a = answer-good (eqb (first_of (frame_facts p time verdict s)) 0) (first_of (frame_facts p time verdict s)) (basic_in s) b (places_in (walk_in s)) w e in
-      (split ∙ rw (a.0, a.1), a.1, a.2)
+  judged-good j e =
+      let t = told-ok (first_of (frame_facts p time verdict s)) (judged_in s) j e in
+      (split ∙ rw t.0 (ap (λ (k : Judged). first_of (table_facts p time k.basic)) t.1), t.1)
 
-  pub judged-bad : (n : ℕ) → judged_of p time verdict s ≡ judged.Refused n → (first_of (receive_facts p time verdict s) ≡ n) × (eqb n 0 ≡ false)
-  unfolding judged_of
-  judged-bad n e =
-      let m = first_of (frame_facts p time verdict s) in
-      let a = answer-bad (eqb m 0) m n (basic_in s) (places_in (walk_in s)) e in
-      (split ∙ rw a.0 a.1, ap (λ (k : ℕ). eqb k 0) (sym a.1) ∙ a.0)
+  pub judged-bad : (why : Refusal) → judged_of p time verdict s ≡ Err why
+      → (first_of (receive_facts p time verdict s) ≡ number_of why) × (eqb (number_of why) 0 ≡ false)
+  unfolding judged_of frame_facts
+  judged-bad why e =
+      let n = first_of (frame_facts p time verdict s) in
+      let t = told-err n (judged_in s) why e in
+      let few = first_known (frame_facts p time verdict s) refl in
+      let number : n ≡ number_of why = sym (number_refused n (omega (arith, eqb-false n 0 t.0)) (omega (arith, few))) ∙ ap number_of t.1 in
+      (split ∙ rw t.0 number, ap (λ (k : ℕ). eqb k 0) (sym number) ∙ t.0)

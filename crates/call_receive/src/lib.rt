@@ -2,82 +2,44 @@
 #![tactic(auto)]
 
 ghost use Rattle.std.specs.Prelude.{◌≡◌};
-ghost use Rattle.call_receive.specs.Receive.{refusal_of, received_of};
+ghost use Rattle.call_receive.specs.Receive.{received_of};
 
-use base_facts::Check;
-use call_accept::Received;
+use base_facts::Refusal;
+use call_hearing::keys::Wrapped;
 use call_hearing::{keys, proof};
 use call_judge::Judged;
-use participant::Participant;
-use table::ROOM;
+use participant::call::Called;
+use participant::{Participant, call};
 
-fn refusal(r: Judged) -> u8
-    ensures { result ≡ refusal_of r }
-{
-    match r {
-        Judged::Refused(n) => n,
-        Judged::Good(_, _) => 0,
-    }
-}
-
-// One local table, gone through once, changed in its place and put into the participant last (docs/COST.md).
-pub fn receive(p: Participant, time: u64, verdict: bool, frame: &[u8]) -> Received
+// The wrapped key is that of a key entered, 0 and 0 if none was. One participant, changed in its place, its table put back on a refusal:
+// a second one to change costs 235 instructions more.
+pub fn receive(mut p: Participant, time: u64, verdict: bool, frame: &[u8]) -> Called<Wrapped>
     ensures { result ≡ received_of p time verdict frame.now }
 {
-    let j = call_judge::judge(p, time, verdict, frame);
-    let Judged::Good(b, w) = j else {
-        return call_accept::refused(p, refusal(j));
+    // no `?`: a refusal hands the participant back
+    let Judged { basic, places } = match call_judge::judge(&p, time, verdict, frame) {
+        Ok(judged) => judged,
+        Err(why) => return call::refused(p, why),
     };
-    let own = p.mi;
-    let m = b.mi;
-    let Check::Passed = base_facts::fail_if(base_mi::same_mi(own, m)) else {
-        return call_accept::refused(p, 10);
+    let Some(()) = base_facts::fail_if(p.mi == basic.mi) else {
+        return call::refused(p, Refusal::OwnMi);
     };
-    let mut t = p.table;
-    let n = base_facts::at_most(t.count, ROOM);
-    let from = table_expiry::oldest(time);
-    let mut expires = false;
-    let mut at = n;
-    let mut i: usize = 0;
-    while i < n {
-        let e = t.peers[i];
-        expires = base_facts::either(expires, !table_expiry::still_from(e, from));
-        at = table_lookup::first(at, n, i, m, e);
-        i += 1;
-    }
-    t.count = n;
-    let k = base_facts::at_most(at, 15);
-    let e = t.peers[k];
-    let mut held = table_lookup::found(at, n, e);
-    if expires {
-        t = table_expiry::expire(t, time);
-        held = table_lookup::look(t, m);
-    }
-    let Check::Passed = base_facts::fail_if(table_lookup::stale(held, b.mn)) else {
-        return call_accept::refused(p, 11);
+    let before = p.table;
+    table_expiry::expire(&mut p.table, time);
+    let held = table_lookup::look(&p.table, basic.mi);
+    let Some(()) = base_facts::fail_if(table_lookup::stale(held, basic.mn)) else {
+        p.table = before;
+        return call::refused(p, Refusal::Stale);
     };
-    let Check::Passed = base_facts::fail_if(table_lookup::no_room(held, t)) else {
-        return call_accept::refused(p, 12);
+    let Some(()) = base_facts::fail_if(table_lookup::no_room(held, &p.table)) else {
+        p.table = before;
+        return call::refused(p, Refusal::Full);
     };
-    let proves = proof::proves(frame, w, own, p.mn);
-    let to = table_enter::place(held, t.count);
-    t.peers[to] = table_enter::anew(held, call_accept::heard_of(b), proves, time);
-    t.count = table_enter::grown(held, t.count);
-    let mut q = p;
-    q.table = t;
-    q.mark = base_facts::either(p.mark, table_lookup::becomes_live(held, proves));
-    q.clock = time;
-    let sak = w.sak;
-    if sak.present {
-        let before = p.latest;
-        let older = p.old;
-        let server = table_election::elect(t, call_standing::own_rank(p));
-        let k = keys::take_sak(server, before, older, frame, m, sak);
-        let latest = k.latest;
-        let old = k.old;
-        q.latest = latest;
-        q.old = old;
-        return call_accept::accepted(q, k.place, k.len);
-    }
-    call_accept::accepted(q, 0, 0)
+    let proves = proof::proves(frame, &places, p.mi, p.mn);
+    let heard = call_accept::heard_of(&basic);
+    table_enter::enter(&mut p.table, held, heard, proves, time);
+    p.mark |= table_lookup::becomes_live(held, proves);
+    p.clock = time;
+    let wrapped = keys::take_sak_into(&mut p, frame, basic.mi, places.sak);
+    call::accepted(p, wrapped)
 }

@@ -13,23 +13,11 @@ unfoldable pub misreported : Slot → Mi → ℕ → Bool → Bool
 misreported latest m kn transmit = not (is_key latest m kn) || (transmit && not latest.key.receive)
 
 unfoldable pub installed : Slot → Bool → Slot
-installed s transmit =
-    record {
-      held = s.held;
-      key = record {
-        mi = s.key.mi;
-        kn = s.key.kn;
-        suite = s.key.suite;
-        an = s.key.an;
-        confidentiality = s.key.confidentiality;
-        receive = cond transmit s.key.receive true;
-        transmit = cond transmit true s.key.transmit;
-      };
-    }
+installed s transmit = record s { key = record s.key { receive = cond transmit s.key.receive true; transmit = cond transmit true s.key.transmit } }
 
 -- Installation report: 18.
 abbrev pub report_facts : Participant → Mi → ℕ → Bool → List (ℕ × Bool)
 report_facts p m kn transmit = (18, misreported p.latest m kn transmit) ∷ []
 
-unfoldable pub reported : Participant → Mi → ℕ → Bool → Called
+unfoldable pub reported : Participant → Mi → ℕ → Bool → Called (Unit {0})
 reported p m kn transmit = settle p (report_facts p m kn transmit) (set_latest (installed p.latest transmit) p)

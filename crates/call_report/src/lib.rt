@@ -4,49 +4,40 @@
 ghost use Rattle.std.specs.Prelude.{◌≡◌};
 ghost use Rattle.call_report.specs.Report.{misreported, installed, reported};
 
-use base_facts::Check;
+use base_facts::Refusal;
 use base_mi::Mi;
 use participant::call::Called;
 use participant::{Participant, Slot, call, keys};
 
 // Fact 18, of the latest key.
-fn is_misreported(latest: Slot, m: Mi, kn: u32, transmit: bool) -> bool
-    ensures { result ≡ misreported latest m kn transmit }
+#[tactic(auto, unfolding(crate::specs::Report::misreported))]
+fn is_misreported(latest: &Slot, m: Mi, kn: u32, transmit: bool) -> bool
+    ensures { result ≡ misreported latest.now m kn transmit }
 {
-    if keys::is_key(latest, m, kn) {
-        if transmit {
-            let k = latest.key;
-            return !k.receive;
-        }
-        return false;
-    }
-    true
+    !keys::is_key(latest, m, kn) || transmit && !latest.key.receive
 }
 
+#[tactic(auto, unfolding(crate::specs::Report::installed))]
 fn install(latest: Slot, transmit: bool) -> Slot
     ensures { result ≡ installed latest transmit }
 {
-    let mut key = latest.key;
+    let mut s = latest;
     if transmit {
-        key.transmit = true;
+        s.key.transmit = true;
     } else {
-        key.receive = true;
+        s.key.receive = true;
     }
-    Slot {
-        held: latest.held,
-        key,
-    }
+    s
 }
 
 // `transmit` tells what is reported of the key: that it is sent with, else that it is received with.
-pub fn report(p: Participant, m: Mi, kn: u32, transmit: bool) -> Called
+#[tactic(auto, unfolding(crate::specs::Report::reported))]
+pub fn report(p: Participant, m: Mi, kn: u32, transmit: bool) -> Called<()>
     ensures { result ≡ reported p m kn transmit }
 {
-    let latest = p.latest;
-    let Check::Passed = base_facts::fail_if(is_misreported(latest, m, kn, transmit)) else {
-        return call::refused(p, 18);
+    let Some(()) = base_facts::fail_if(is_misreported(&p.latest, m, kn, transmit)) else {
+        return call::refused(p, Refusal::Misreported);
     };
-    let mut q = p;
-    q.latest = install(latest, transmit);
-    call::done(q)
+    let latest = install(p.latest, transmit);
+    call::accepted(Participant { latest, ..p }, ())
 }

@@ -1,5 +1,5 @@
 -- "Sending": what a frame says.
-use Rattle.std.specs.Prelude.{ℕ, ◌+◌, Bool, false, cond, not, ◌&&◌}
+use Rattle.std.specs.Prelude.{ℕ, ◌+◌, Bool, false, cond, not, ◌&&◌, Option, Some, None}
 use Rattle.table_counts.specs.Counts.{live_list, potential_list}
 use Rattle.table_election.specs.Stand.{is_theirs}
 use Rattle.frame_sets.specs.declared.kinds.KeyUse.{KeyUse}
@@ -53,20 +53,25 @@ sak_of p = record { an = p.latest.key.an; confidentiality = p.latest.key.confide
 abbrev pub usage_of : Slot → Slot → ℕ → ℕ → SakUse
 usage_of latest old latest_pn old_pn = record { latest = key_use_of latest latest_pn; old = key_use_of old old_pn }
 
+-- What a frame has, if it has it.
+abbrev pub said_if : {A : Type 0} → Bool → A → Option A
+said_if there x = cond there (Some x) None
+
+-- "SAK Use if a latest key exists"
+abbrev pub usage_said : Participant → ℕ → ℕ → Option SakUse
+usage_said p latest_pn old_pn = said_if p.latest.held (usage_of p.latest p.old latest_pn old_pn)
+
 -- A frame with the lists of a table.
-abbrev pub saying : Sender → Table → Bool → SakUse → Bool → Sak → Mkpdu
-saying x t used usage distributed sak =
+abbrev pub saying : Sender → Table → Option SakUse → Option Sak → Mkpdu
+saying x t usage sak =
     record {
       sender = x;
       live = live_list t;
       potential = potential_list t;
-      used = used;
       usage = usage;
-      distributed = distributed;
       sak = sak;
     }
 
 -- "Live, Potential (.. in table order); SAK Use if a latest key exists, ..; Distributed SAK of 28 if .."
 unfoldable pub message_of : Participant → ℕ → ℕ → Mkpdu
-message_of p latest_pn old_pn =
-    saying (sender_of p) p.table p.latest.held (usage_of p.latest p.old latest_pn old_pn) (hands_out p) (sak_of p)
+message_of p latest_pn old_pn = saying (sender_of p) p.table (usage_said p latest_pn old_pn) (said_if (hands_out p) (sak_of p))

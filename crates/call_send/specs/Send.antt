@@ -5,11 +5,10 @@ use Rattle.base_facts.specs.Numbers.{last_number}
 use Rattle.base_octets.specs.Run.{written}
 use Rattle.frame_writer.specs.Frame.{frame_of}
 use Rattle.participant.specs.Record.{set_mn, set_sent}
-use Rattle.participant.specs.Call.{fact1, aged_to}
+use Rattle.participant.specs.Call.{fact1, aged_to, accepted_of, settle_to}
 use Rattle.participant.specs.declared.Participant.{Participant}
+use Rattle.participant.specs.declared.call.Called.{Called}
 use Rattle.call_send.specs.Message.{message_of}
-use Rattle.call_send.specs.declared.Answer.TheVariants.{Octets, Refused}
-use Rattle.call_send.specs.declared.Sent.{Sent}
 
 -- the frame at the call's time
 unfoldable pub frame_at : Participant → ℕ → ℕ → ℕ → List ℕ
@@ -20,17 +19,14 @@ unfoldable pub send_facts : Participant → ℕ → ℕ → ℕ → ℕ → List
 send_facts p time latest_pn old_pn room =
     (1, fact1 p time) ∷ (14, eqb p.mn last_number) ∷ (13, ltb room (length (frame_at p time latest_pn old_pn))) ∷ []
 
-abbrev pub refused_of : Participant → ℕ → Sent
-refused_of p n = record { participant = p; answer = Refused n }
-
 -- "MN rises by 1", and the time of the last send
 unfoldable pub sent_at : Participant → ℕ → Participant
 sent_at p time = set_sent time (set_mn (p.mn + 1) (aged_to p time))
 
-unfoldable pub sent_of : Participant → ℕ → ℕ → ℕ → ℕ → Sent
+-- and the frame's length
+unfoldable pub sent_of : Participant → ℕ → ℕ → ℕ → ℕ → Called ℕ
 sent_of p time latest_pn old_pn room =
-    let n = first_of (send_facts p time latest_pn old_pn room) in
-    cond (eqb n 0) (record { participant = sent_at p time; answer = Octets (length (frame_at p time latest_pn old_pn)) }) (refused_of p n)
+    settle_to p (send_facts p time latest_pn old_pn room) (accepted_of (sent_at p time) (length (frame_at p time latest_pn old_pn)))
 
 -- What the lent octets hold: the frame and then what stood past it, or all that stood there.
 unfoldable pub left_by : Participant → ℕ → ℕ → ℕ → List ℕ → List ℕ

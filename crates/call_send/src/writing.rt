@@ -5,34 +5,31 @@ ghost use Rattle.frame_writer.specs.Frame.{frame_of, wrote_of};
 ghost use Rattle.table_counts.specs.Counts.{live_count};
 ghost use Rattle.call_send.specs.Message.{saying};
 
-use base_facts::Check;
+use base_facts::Refusal;
 use frame_sets::kinds::SakUse;
-use frame_writer::{Sak, Sender, Wrote};
+use frame_writer::{Sak, Sender};
 use table::Table;
 
 // `live` of the table's peers are Live.
 pub(crate) fn put_frame(
     out: &mut [u8],
-    x: Sender,
-    t: Table,
+    x: &Sender,
+    t: &Table,
     live: usize,
-    used: bool,
-    usage: SakUse,
-    distributed: bool,
-    sak: Sak,
-) -> Wrote
-    requires { live ≡ live_count t }
-    ensures { (result ≡ wrote_of (length (frame_of (saying x t used usage distributed sak))) (length out.old)) × (out.new ≡ written out.old (frame_of (saying x t used usage distributed sak))) }
+    usage: Option<SakUse>,
+    sak: Option<Sak>,
+) -> Result<usize, Refusal>
+    requires { live ≡ live_count t.now }
+    ensures { (result ≡ wrote_of (length (frame_of (saying x.now t.now usage sak))) (length out.old)) × (out.new ≡ written out.old (frame_of (saying x.now t.now usage sak))) }
 {
-    let n = base_facts::at_most(t.count, 16);
-    let potential = base_facts::less(n, live);
-    let total = frame_writer::frame_size(x.size, live, potential, used, distributed);
-    let Check::Passed = base_facts::fail_if(out.len() < total) else {
-        return Wrote::Refused(13);
+    let potential = t.held().len().saturating_sub(live);
+    let total = frame_writer::frame_size(x.size, live, potential, usage.is_some(), sak.is_some());
+    let Some(()) = base_facts::fail_if(out.len() < total) else {
+        return Err(Refusal::NoRoom);
     };
     let a = frame_writer::put_start(out, (total - 4) as u16, x);
     let b = call_lists::put_list(out, a as u16, t, true);
     let c = call_lists::put_list(out, b as u16, t, false);
-    frame_writer::put_end(out, c as u16, used, usage, distributed, sak);
-    Wrote::Octets(total)
+    frame_writer::put_end(out, c as u16, usage, sak);
+    Ok(total)
 }

@@ -7,55 +7,43 @@ ghost use Rattle.call_standing.specs.Standing.{own_rank, server_of, elected_self
 use participant::Participant;
 use table_election::{Rank, Server};
 
-pub fn own_rank(p: Participant) -> Rank
-    ensures { result ≡ own_rank p }
+pub fn own_rank(p: &Participant) -> Rank
+    ensures { result ≡ own_rank p.now }
 {
-    let mi = p.mi;
     Rank {
         priority: p.priority,
         sci: p.sci,
-        mi,
+        mi: p.mi,
     }
 }
 
-pub fn server(p: Participant) -> Server
-    ensures { result ≡ server_of p }
+#[tactic(auto, unfolding(crate::specs::Standing::server_of))]
+pub fn server(p: &Participant) -> Server
+    ensures { result ≡ server_of p.now }
 {
-    let t = p.table;
-    table_election::elect(t, own_rank(p))
+    table_election::elect(&p.table, own_rank(p))
 }
 
-pub fn elected_self(p: Participant) -> bool
-    ensures { result ≡ elected_self p }
+#[tactic(auto, unfolding(crate::specs::Standing::elected_self))]
+pub fn elected_self(p: &Participant) -> bool
+    ensures { result ≡ elected_self p.now }
 {
-    match server(p) {
-        Server::Nobody => false,
-        Server::Ourselves => true,
-        Server::Elected(_) => false,
-    }
+    server(p) == Server::Ourselves
 }
 
 // KN is 0, or the life time has passed since our last distribution, or no peer is Potential.
-fn pause_over(p: Participant) -> bool
-    ensures { result ≡ pause_over p }
+#[tactic(auto, unfolding(crate::specs::Standing::pause_over))]
+fn pause_over(p: &Participant) -> bool
+    ensures { result ≡ pause_over p.now }
 {
-    if p.kn == 0 {
-        return true;
-    }
-    if !table_expiry::fresh(p.clock, p.distributed) {
-        return true;
-    }
-    let table = p.table;
-    table_counts::potential_count(table) == 0
+    p.kn == 0
+        || !table_expiry::fresh(p.clock, p.distributed)
+        || table_counts::potential_count(&p.table) == 0
 }
 
-pub fn fresh_due(p: Participant) -> bool
-    ensures { result ≡ fresh_due p }
+#[tactic(auto, unfolding(crate::specs::Standing::fresh_due))]
+pub fn fresh_due(p: &Participant) -> bool
+    ensures { result ≡ fresh_due p.now }
 {
-    if elected_self(p) {
-        if p.mark {
-            return pause_over(p);
-        }
-    }
-    false
+    elected_self(p) && p.mark && pause_over(p)
 }

@@ -5,5 +5,5 @@ use Rattle.participant.specs.declared.call.Called.{Called}
 use Rattle.participant.specs.Call.{settle, fact1, aged_to}
 
 -- Tick: 1.
-unfoldable pub ticked : Participant → ℕ → Called
+unfoldable pub ticked : Participant → ℕ → Called (Unit {0})
 ticked p time = settle p ((1, fact1 p time) ∷ []) (aged_to p time)

@@ -2,11 +2,10 @@
 -- in the order of SCOPE, and changes neither the participant nor one octet of a lent buffer."
 use Rattle.std.specs.Prelude.{ℕ, ◌≡◌, Bool, not, List, [], ◌∷◌, map, ◌↔◌, length}
 use Rattle.std.proofs.Math.Option.{none, some}
+use Rattle.base_facts.specs.Refusal.{number_in}
 use Rattle.base_mi.specs.declared.Mi.{Mi}
 use Rattle.frame.specs.Basic.{body_len, basic_len, fact2, fact3, fact4, fact5, basic_of}
-use Rattle.frame.specs.declared.BasicRead.TheVariants as on_basic
 use Rattle.participant.specs.declared.Participant.{Participant}
-use Rattle.participant.specs.declared.call.Answer.TheVariants as on_call
 use Rattle.participant.specs.First.{NoneHolds, First}
 use Rattle.call_creation.specs.Create.{bad_start}
 use Rattle.image_reading.specs.Read.{well_formed, read_of}
@@ -38,9 +37,9 @@ pub record One : Type 0 where
   pub same : (p : Participant) (c : Call) (n : ℕ) → refusal_in (answer_of p c) ≡ some n → answered p c ≡ p
   pub left : (p : Participant) (c : Call) (n : ℕ) → refusal_in (answer_of p c) ≡ some n → left_in (answer_of p c) ≡ lent c
   -- the calls that need no participant: creating, reading an image, the sets of a frame
-  pub create : (k : Creation) (n : ℕ) → ((created k).answer ≡ on_call.Refused n) ↔ First ((15, bad_start (length k.ckn) k.capability) ∷ []) n
-  pub read : (s : List ℕ) (n : ℕ) → ((read_of s).answer ≡ on_call.Refused n) ↔ First ((16, not (well_formed s)) ∷ []) n
-  pub sets : (s : List ℕ) (n : ℕ) → (basic_of s ≡ on_basic.Refused n)
+  pub create : (k : Creation) (n : ℕ) → (number_in (created k).answer ≡ some n) ↔ First ((15, bad_start (length k.ckn) k.capability) ∷ []) n
+  pub read : (s : List ℕ) (n : ℕ) → (number_in (read_of s).answer ≡ some n) ↔ First ((16, not (well_formed s)) ∷ []) n
+  pub sets : (s : List ℕ) (n : ℕ) → (number_in (basic_of s) ≡ some n)
       ↔ First ((2, fact2 s) ∷ (3, fact3 s) ∷ (4, fact4 (body_len s)) ∷ (5, fact5 (basic_len s) (body_len s)) ∷ []) n
 
 pub one : One

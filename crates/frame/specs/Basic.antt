@@ -1,14 +1,12 @@
 -- "Reading an EAPOL-MKA frame": the header, the Basic set, and facts 2 to 5.
-use Rattle.std.specs.Prelude.{ℕ, ◌+◌, ◌-◌, ◌*◌, ◌%◌, List, [], ◌∷◌, Bool, cond, not, ◌||◌, length, get_or, ltb, eqb}
+use Rattle.std.specs.Prelude.{ℕ, ◌+◌, ◌-◌, ◌*◌, ◌%◌, List, [], ◌∷◌, Bool, cond, not, ◌||◌, length, get_or, ltb, eqb, Option, Some, None, Result}
 use Rattle.base_facts.specs.Facts.{first_of, padded_of}
+use Rattle.base_facts.specs.Refusal.{told}
+use Rattle.base_facts.specs.declared.Refusal.{Refusal}
 use Rattle.base_octets.specs.Number.{be_at}
 use Rattle.base_mi.specs.Mi.{mi_at}
 use Rattle.base_packed.specs.Basic.{flags_of}
-use Rattle.frame.specs.declared.Length.{Length}
-use Rattle.frame.specs.declared.Length.TheVariants.{Octets, Short}
 use Rattle.frame.specs.declared.Basic.{Basic}
-use Rattle.frame.specs.declared.BasicRead.{BasicRead}
-use Rattle.frame.specs.declared.BasicRead.TheVariants.{Read, Refused}
 
 -- "Header: version, type, 2-octet body length."
 abbrev pub body_len : List ℕ → ℕ
@@ -39,8 +37,8 @@ abbrev pub fact5 : ℕ → ℕ → Bool
 fact5 n body = ltb n 29 || (ltb 60 n || ltb body (4 + padded_of n + 16))
 
 -- The body length, where fact 2 does not hold.
-unfoldable pub length_of : List ℕ → Length
-length_of s = cond (fact2 s) Short (Octets (body_len s))
+unfoldable pub length_of : List ℕ → Option ℕ
+length_of s = cond (fact2 s) None (Some (body_len s))
 
 -- "MKA version; Key Server priority; [the packed octet]; SCI 8, member identifier (MI) 12, message number (MN) 4, algorithm agility 4, CKN",
 -- of a Basic set of length n in a body of the length given; then where the further sets begin, and where the 16-octet ICV does.
@@ -61,13 +59,10 @@ basic_fields s n body =
       stop = icv_place body;
     }
 
--- The number of the first fact that holds, 0 if none: the answer with that number, or with the Basic set.
-abbrev pub basic_answer : ℕ → Basic → BasicRead
-basic_answer n b = cond (eqb n 0) (Read b) (Refused n)
-
 -- Facts 2 to 5 of a frame, in their order.
 abbrev pub basic_facts : List ℕ → List (ℕ × Bool)
 basic_facts s = (2, fact2 s) ∷ (3, fact3 s) ∷ (4, fact4 (body_len s)) ∷ (5, fact5 (basic_len s) (body_len s)) ∷ []
 
-unfoldable pub basic_of : List ℕ → BasicRead
-basic_of s = basic_answer (first_of (basic_facts s)) (basic_fields s (basic_len s) (body_len s))
+-- The Basic set, or the refusal of the first fact that holds.
+unfoldable pub basic_of : List ℕ → Result Basic Refusal
+basic_of s = told (first_of (basic_facts s)) (basic_fields s (basic_len s) (body_len s))

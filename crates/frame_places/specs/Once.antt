@@ -1,24 +1,21 @@
 -- "Types 1 to 4 may stand at most once each": which have stood, and where.
-use Rattle.std.specs.Prelude.{ℕ, Bool, true, false, cond, eqb}
+use Rattle.std.specs.Prelude.{ℕ, Bool, false, cond, eqb, Option, Some, None, is_some}
 use Rattle.frame_places.specs.declared.Spot.{Spot}
 use Rattle.frame_places.specs.declared.Places.{Places}
 
-abbrev pub absent_spot : Spot
-absent_spot = record { present = false; place = 0; len = 0 }
-
-abbrev pub spot_at : ℕ → ℕ → Spot
-spot_at place len = record { present = true; place = place; len = len }
+abbrev pub spot_at : ℕ → ℕ → Option Spot
+spot_at place len = Some (record { place = place; len = len })
 
 abbrev pub no_places : Places
-no_places = record { live = absent_spot; potential = absent_spot; sak_use = absent_spot; sak = absent_spot }
+no_places = record { live = None; potential = None; sak_use = None; sak = None }
 
 -- a set of type t has stood before
 unfoldable pub holds : Places → ℕ → Bool
 holds p t =
-    cond (eqb t 1) p.live.present
-    (cond (eqb t 2) p.potential.present
-    (cond (eqb t 3) p.sak_use.present
-    (cond (eqb t 4) p.sak.present false)))
+    cond (eqb t 1) (is_some p.live)
+    (cond (eqb t 2) (is_some p.potential)
+    (cond (eqb t 3) (is_some p.sak_use)
+    (cond (eqb t 4) (is_some p.sak) false)))
 
 -- the places with the set of type t at `place`, if t is 1 to 4
 unfoldable pub places_with : Places → ℕ → ℕ → ℕ → Places

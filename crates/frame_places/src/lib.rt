@@ -2,73 +2,59 @@
 #![tactic(auto)]
 
 ghost use Rattle.std.specs.Prelude.{◌≡◌};
-ghost use Rattle.frame_places.specs.Once.{holds, places_with, absent_spot, no_places};
+ghost use Rattle.frame_places.specs.Once.{holds, places_with, no_places};
 
-// A set's header's place and its body's length; zeros where it is absent.
+// A set's header's place and its body's length.
 #[derive(Clone, Copy)]
 pub struct Spot {
-    pub present: bool,
     pub place: usize,
     pub len: u16,
 }
 
 #[derive(Clone, Copy)]
 pub struct Places {
-    pub live: Spot,
-    pub potential: Spot,
-    pub sak_use: Spot,
-    pub sak: Spot,
-}
-
-fn absent() -> Spot
-    ensures { result ≡ absent_spot }
-{
-    Spot {
-        present: false,
-        place: 0,
-        len: 0,
-    }
+    pub live: Option<Spot>,
+    pub potential: Option<Spot>,
+    pub sak_use: Option<Spot>,
+    pub sak: Option<Spot>,
 }
 
 pub fn none() -> Places
     ensures { result ≡ no_places }
 {
     Places {
-        live: absent(),
-        potential: absent(),
-        sak_use: absent(),
-        sak: absent(),
+        live: None,
+        potential: None,
+        sak_use: None,
+        sak: None,
     }
 }
 
+#[tactic(auto, unfolding(crate::specs::Once::holds))]
 pub fn has(p: Places, t: u8) -> bool
     ensures { result ≡ holds p t }
 {
     match t {
-        1 => p.live.present,
-        2 => p.potential.present,
-        3 => p.sak_use.present,
-        4 => p.sak.present,
+        1 => p.live.is_some(),
+        2 => p.potential.is_some(),
+        3 => p.sak_use.is_some(),
+        4 => p.sak.is_some(),
         _ => false,
     }
 }
 
-// The places with one more: the set of type `t` at `place`.
-pub fn with(p: Places, t: u8, place: usize, len: u16) -> Places
+// The places with one more: the set of type `t` at `place`. A type is its octet here too (frame_rules has why).
+#[tactic(auto, unfolding(crate::specs::Once::places_with))]
+pub fn with(mut p: Places, t: u8, place: usize, len: u16) -> Places
     ensures { result ≡ places_with p t place len }
 {
-    let s = Spot {
-        present: true,
-        place,
-        len,
-    };
-    let mut q = p;
+    let s = Some(Spot { place, len });
     match t {
-        1 => q.live = s,
-        2 => q.potential = s,
-        3 => q.sak_use = s,
-        4 => q.sak = s,
+        1 => p.live = s,
+        2 => p.potential = s,
+        3 => p.sak_use = s,
+        4 => p.sak = s,
         _ => {}
     }
-    q
+    p
 }

@@ -6,14 +6,13 @@ use mathlib.Core.List.{[], ◌∷◌, map}
 use mathlib.Core.Bool.{Bool, true, false, cond}
 use native.Mathlib.Omega.{arith}
 use lib.ListN.{length, get_or}
-use lib.Dec.{leb, eqb}
-use borrow.Author.Tests.{le-leb, leb-true, leb-false, eqb-false}
+use lib.Dec.{leb}
+use borrow.Author.Tests.{le-leb, leb-true, leb-false}
 use denote.Ref.{Bor}
-use Rattle.base_facts.specs.Facts.{first_of}
-use Rattle.frame.specs.Basic.{body_len, basic_len, basic_fields, basic_facts, basic_of}
+use Rattle.frame.specs.Basic.{basic_of}
 use Rattle.frame.specs.declared.Basic.{Basic}
-use Rattle.frame.specs.declared.BasicRead.{BasicRead}
-use Rattle.frame.specs.declared.BasicRead.TheVariants.{Read, Refused as Unread}
+use Rattle.base_facts.specs.declared.Refusal.{Refusal}
+use Rattle.std.specs.Prelude.{Result, Ok, Err, None}
 use Rattle.frame_sets.specs.Kinds.{type_of}
 use Rattle.frame_places.specs.Once.{no_places, places_with}
 use Rattle.frame_sets.specs.Set.{len_at, bad_set, set_fields}
@@ -23,8 +22,6 @@ use Rattle.frame_sets.specs.declared.Set.{Set}
 use Rattle.frame_sets.proofs.Laws.{type-kind}
 use Rattle.frame_rules.proofs.Laws.{extent-least}
 use Rattle.frame_walk.specs.Walk.{next_at, places_after, walk_go, walk_from, walk_of}
-use Rattle.frame_walk.specs.declared.Walked.{Walked}
-use Rattle.frame_walk.specs.declared.Walked.TheVariants.{End as Ended, Bad as Stopped}
 use Rattle.frame_reader.specs.Reader.{start_after, start_of, stays, step_of, reader_over, moved}
 use Rattle.frame_reader.specs.Asked.{sets_go, sets_of, walked_by, sets_in, frame_sets, none_of, none_in, frame_none, answer, handed_by, until_none}
 use Rattle.frame_reader.specs.declared.step.Position.{Position}
@@ -52,8 +49,8 @@ module _ (s : core.List ℕ) (stop : ℕ) where
     places_of = ap (λ (t : ℕ). places_with p t at (len_at s at)) type_at
 
     -- one set more, where the rest of the walk is w over the sets vs
-    one_more : (t u : Bool) (w : Walked) (vs : core.List Set) → leb stop at ≡ t → w ≡ walked_by stop (next_at s at) (places_after s at p) vs
-        → cond t (Ended p) (cond u (Stopped at) w) ≡ walked_by stop at p (cond t [] (cond u [] (set_fields s at ∷ vs)))
+    one_more : (t u : Bool) (w : Result Places ℕ) (vs : core.List Set) → leb stop at ≡ t → w ≡ walked_by stop (next_at s at) (places_after s at p) vs
+        → cond t (Ok p) (cond u (Err at) w) ≡ walked_by stop at p (cond t [] (cond u [] (set_fields s at ∷ vs)))
     one_more true u w vs e h = rw e
     one_more false true w vs e h = rw e
     one_more false false w vs e h = h ∙ sym (ap₂ (λ (n : ℕ) (q : Places). walked_by stop n q vs) next_of places_of)
@@ -69,18 +66,6 @@ module _ (s : core.List ℕ) (stop : ℕ) where
   pub walk_of-sets : (at : ℕ) → walk_of s at stop ≡ walked_by stop at no_places (sets_of s at stop)
   unfolding walk_of walk_from
   walk_of-sets at = go-walked (stop - at) at no_places (omega arith)
-
--- ---- a refusal by facts 2 to 5 has a number
-
-told-unread : (t : Bool) (n k : ℕ) (b : Basic) → cond t (Read b) (Unread n) ≡ Unread k → (t ≡ false) × (n ≡ k)
-told-unread false n k b e = (refl, cc)
-told-unread true n k b e = let z : ◌≡◌ {A = ℕ} 0 1 = cc in absurd (omega arith)
-
-refused-some : (s : core.List ℕ) (k : ℕ) → basic_of s ≡ Unread k → k ≡ 0 → ⊥
-unfolding basic_of
-refused-some s k e z =
-    let t = told-unread (eqb (first_of (basic_facts s)) 0) (first_of (basic_facts s)) k (basic_fields s (basic_len s) (body_len s)) e in
-    eqb-false (first_of (basic_facts s)) 0 t.0 (t.1 ∙ z)
 
 -- ---- the answers
 
@@ -98,12 +83,12 @@ module _ (f : Bor (core.List ℕ)) where
 
   module _ (stop : ℕ) where
     abbrev to : ℕ → Places → Position
-    to at p = record { refused = 0; at = at; stop = stop; seen = p }
+    to at p = record { refused = None; at = at; stop = stop; seen = p }
 
     -- the answers from `at` on, where those past its set are of the sets vs and then of the walk's answer w
-    one_answer : (t u : Bool) (n at : ℕ) (p : Places) (w : Walked) (vs : core.List Set) → leb stop at ≡ t → bad_set s at stop p ≡ u
+    one_answer : (t u : Bool) (n at : ℕ) (p : Places) (w : Result Places ℕ) (vs : core.List Set) → leb stop at ≡ t → bad_set s at stop p ≡ u
         → ((m : ℕ) → answer m (reader (to (next_at s at) (places_after s at p))) ≡ get_or (map Handed vs) m (none_of w))
-        → answer n (reader (to at p)) ≡ get_or (map Handed (cond t [] (cond u [] (set_fields s at ∷ vs)))) n (none_of (cond t (Ended p) (cond u (Stopped at) w)))
+        → answer n (reader (to at p)) ≡ get_or (map Handed (cond t [] (cond u [] (set_fields s at ∷ vs)))) n (none_of (cond t (Ok p) (cond u (Err at) w)))
     one_answer true u n at p w vs e b h = stays_put n End (to at p) (step_end s (to at p) refl (leb-true stop at e))
     one_answer false true n at p w vs e b h = stays_put n (Bad at) (to at p) (step-bad s (to at p) refl (leb-false stop at e) b)
     one_answer false false zero at p w vs e b h = ap (λ (y : Stepped). y.next) (step_set s (to at p) refl (leb-false stop at e) b)
@@ -116,10 +101,10 @@ module _ (f : Bor (core.List ℕ)) where
         let up = extent-least (get_or s at 0) (len_at s at) in
         one_answer (leb stop at) (bad_set s at stop p) n at p _ _ refl refl (λ m. go-answers k m (next_at s at) (places_after s at p) (omega arith))
 
-  by-basic : (b : BasicRead) (n : ℕ) → basic_of s ≡ b → answer n (reader (start_after b)) ≡ get_or (map Handed (sets_in s b)) n (none_in s b)
+  by-basic : (b : Result Basic Refusal) (n : ℕ) → basic_of s ≡ b → answer n (reader (start_after b)) ≡ get_or (map Handed (sets_in s b)) n (none_in s b)
   unfolding walk_of walk_from
-  by-basic (Read b) n e = go-answers b.stop (b.stop - b.next) n b.next no_places (omega arith)
-  by-basic (Unread k) n e = stays_put n (Refused k) (start_after (Unread k)) (step-refused s (start_after (Unread k)) (refused-some s k e))
+  by-basic (Ok b) n e = go-answers b.stop (b.stop - b.next) n b.next no_places (omega arith)
+  by-basic (Err k) n e = stays_put n (Refused k) (start_after (Err k)) (step-refused s (start_after (Err k)) k refl)
 
   -- "hands out the further sets as the walk does, none where facts 2 to 5 hold": asked n times before, a reader over a frame
   -- answers with the n-th of the frame's sets; and when there is none left, with why, at that asking and at each one after it.
@@ -129,13 +114,13 @@ module _ (f : Bor (core.List ℕ)) where
 
 -- ---- asking until there is none
 
-none-walked : (w : Walked) (vs : core.List Set) → handed_by (none_of w) vs ≡ []
-none-walked (Ended p) vs = refl
-none-walked (Stopped at) vs = refl
+none-walked : (w : Result Places ℕ) (vs : core.List Set) → handed_by (none_of w) vs ≡ []
+none-walked (Ok p) vs = refl
+none-walked (Err at) vs = refl
 
-none_is : (s : core.List ℕ) (b : BasicRead) (vs : core.List Set) → handed_by (none_in s b) vs ≡ []
-none_is s (Read b) vs = none-walked (walk_of s b.next b.stop) vs
-none_is s (Unread n) vs = refl
+none_is : (s : core.List ℕ) (b : Result Basic Refusal) (vs : core.List Set) → handed_by (none_in s b) vs ≡ []
+none_is s (Ok b) vs = none-walked (walk_of s b.next b.stop) vs
+none_is s (Err n) vs = refl
 
 until : (n : ℕ) (r : Reader) (vs : core.List Set) (x : Next) → ((ws : core.List Set) → handed_by x ws ≡ []) → ((m : ℕ) → answer m r ≡ get_or (map Handed vs) m x) → length vs ≤ n → until_none n r ≡ vs
 unfolding until_none

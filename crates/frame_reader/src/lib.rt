@@ -8,6 +8,7 @@ use crate::step::{Next, Position};
 
 pub mod step;
 
+// No methods: thin functions over this struct and the by-value step are the form that document 01 asks for.
 #[derive(Clone, Copy)]
 pub struct Reader<'a> {
     pub frame: &'a [u8],
@@ -18,8 +19,10 @@ pub struct Reader<'a> {
 pub fn over<'a>(frame: &'a [u8]) -> Reader<'a>
     ensures { result ≡ reader_over frame.entry }
 {
-    let position = step::start(frame);
-    Reader { frame, position }
+    Reader {
+        frame,
+        position: step::start(frame),
+    }
 }
 
 // The next set, or why there is none.

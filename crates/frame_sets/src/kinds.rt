@@ -3,10 +3,11 @@ ghost use Rattle.std.specs.Prelude.{◌≡◌, ◌+◌, ◌<◌, ◌^◌};
 ghost use Rattle.frame_sets.specs.Kinds.{key_use_at, sak_use_at, sak_at, sak_in, kind_at, type_of};
 
 use base_mi::Mi;
-use base_packed::used::KeyFlags;
+use base_packed::sak::SakFlags;
+use base_packed::used::{KeyFlags, Used};
 
 // What a SAK Use set says of one key.
-#[derive(Clone, Copy)]
+#[derive(Clone, Copy, Default)]
 pub struct KeyUse {
     pub an: u8,
     pub transmit: bool,
@@ -23,7 +24,7 @@ pub struct SakUse {
 }
 
 // A Distributed SAK's header; the wrapped key's octets are `len` from `place`.
-#[derive(Clone, Copy)]
+#[derive(Clone, Copy, Default)]
 pub struct SakHeader {
     pub an: u8,
     pub confidentiality: u8,
@@ -45,6 +46,7 @@ pub enum Kind {
     Skipped(u8),
 }
 
+#[tactic(auto, unfolding(crate::specs::Kinds::key_use_at))]
 fn key_use(frame: &[u8], at: usize, f: KeyFlags) -> KeyUse
     requires { at < 2 ^ 63 + 64 }
     ensures { result ≡ key_use_at frame.now at f }
@@ -59,63 +61,58 @@ fn key_use(frame: &[u8], at: usize, f: KeyFlags) -> KeyUse
     }
 }
 
+#[tactic(auto, unfolding(crate::specs::Kinds::sak_use_at))]
 fn sak_use(frame: &[u8], at: usize) -> SakUse
     requires { at < 2 ^ 63 }
     ensures { result ≡ sak_use_at frame.now at }
 {
-    let u = base_packed::used::unpack(base_octets::octet(frame, at + 1));
-    let latest = u.latest;
-    let old = u.old;
+    let u = Used::from(base_octets::octet(frame, at + 1));
     SakUse {
-        latest: key_use(frame, at + 4, latest),
-        old: key_use(frame, at + 24, old),
+        latest: key_use(frame, at + 4, u.latest),
+        old: key_use(frame, at + 24, u.old),
     }
 }
 
+#[tactic(auto, unfolding(crate::specs::Kinds::sak_at))]
 fn sak_header(frame: &[u8], at: usize, len: u16) -> SakHeader
     requires { at < 2 ^ 63 }
     ensures { result ≡ sak_at frame.now at len }
 {
-    let f = base_packed::sak::unpack(base_octets::octet(frame, at + 1));
+    let f = SakFlags::from(base_octets::octet(frame, at + 1));
     let kn = base_octets::u32_at(frame, at + 4);
-    if len == 28 {
-        return SakHeader {
-            an: f.an,
-            confidentiality: f.confidentiality,
-            kn,
-            suite: 0,
-            place: at + 8,
-            len: 24,
-        };
-    }
+    let (suite, place, len) = if len == 28 {
+        (0, at + 8, 24)
+    } else {
+        (
+            base_octets::u64_at(frame, at + 8),
+            at + 16,
+            (len as usize).saturating_sub(12),
+        )
+    };
     SakHeader {
         an: f.an,
         confidentiality: f.confidentiality,
         kn,
-        suite: base_octets::u64_at(frame, at + 8),
-        place: at + 16,
-        len: base_facts::less(len as usize, 12),
+        suite,
+        place,
+        len,
     }
 }
 
 // The Distributed SAK with a body of `len` octets whose header stands at `at`; all zeros past the frame.
+#[tactic(auto, unfolding(crate::specs::Kinds::sak_in))]
 pub fn sak_at(frame: &[u8], at: usize, len: u16) -> SakHeader
     ensures { result ≡ sak_in frame.now at len }
 {
     if frame.len() <= at {
-        return SakHeader {
-            an: 0,
-            confidentiality: 0,
-            kn: 0,
-            suite: 0,
-            place: 0,
-            len: 0,
-        };
+        return SakHeader::default();
     }
     sak_header(frame, at, len)
 }
 
-// The kind of the set of type `t` and body length `len` whose header stands at `at`.
+// The kind of the set of type `t` and body length `len` whose header stands at `at`. Here the type's octet becomes an enum. No type for the
+// bound on a place: it would be made at each call, and says what any place in a slice meets.
+#[tactic(auto, unfolding(crate::specs::Kinds::kind_at))]
 pub(crate) fn kind_at(frame: &[u8], at: usize, t: u8, len: u16) -> Kind
     requires { at < 2 ^ 63 }
     ensures { result ≡ kind_at frame.now at t len }
@@ -123,20 +120,10 @@ pub(crate) fn kind_at(frame: &[u8], at: usize, t: u8, len: u16) -> Kind
     match t {
         1 => Kind::Live,
         2 => Kind::Potential,
-        3 => {
-            if len == 0 {
-                Kind::SakUseEmpty
-            } else {
-                Kind::SakUsed(sak_use(frame, at))
-            }
-        }
-        4 => {
-            if len == 0 {
-                Kind::DistributedEmpty
-            } else {
-                Kind::Distributed(sak_header(frame, at, len))
-            }
-        }
+        3 if len == 0 => Kind::SakUseEmpty,
+        3 => Kind::SakUsed(sak_use(frame, at)),
+        4 if len == 0 => Kind::DistributedEmpty,
+        4 => Kind::Distributed(sak_header(frame, at, len)),
         255 => Kind::Icv,
         _ => Kind::Skipped(t),
     }
@@ -148,10 +135,8 @@ pub fn type_of(k: Kind) -> u8
     match k {
         Kind::Live => 1,
         Kind::Potential => 2,
-        Kind::SakUsed(_) => 3,
-        Kind::SakUseEmpty => 3,
-        Kind::Distributed(_) => 4,
-        Kind::DistributedEmpty => 4,
+        Kind::SakUsed(_) | Kind::SakUseEmpty => 3,
+        Kind::Distributed(_) | Kind::DistributedEmpty => 4,
         Kind::Icv => 255,
         Kind::Skipped(t) => t,
     }

@@ -5,7 +5,6 @@ ghost use Rattle.std.specs.Prelude.{◌≡◌, ◌<◌, ◌^◌};
 ghost use Rattle.frame_sets.specs.Set.{len_at, head_of, set_of};
 
 use crate::kinds::Kind;
-use base_facts::Check;
 use frame_places::Places;
 
 pub mod kinds;
@@ -18,12 +17,7 @@ pub struct Set {
     pub kind: Kind,
 }
 
-#[derive(Clone, Copy)]
-pub enum SetRead {
-    Good(Set),
-    Bad,
-}
-
+#[tactic(auto, unfolding(crate::specs::Set::len_at))]
 fn set_len(frame: &[u8], at: usize) -> u16
     requires { at < 2 ^ 63 }
     ensures { result ≡ len_at frame.now at }
@@ -32,23 +26,24 @@ fn set_len(frame: &[u8], at: usize) -> u16
 }
 
 // The set at `at` by all rules but that on the lists' lengths, which a scan of the list tells.
-pub fn set_head(frame: &[u8], at: usize, stop: usize, seen: Places) -> SetRead
+#[tactic(auto, using(crate::proofs::Laws::head_tight), unfolding(crate::specs::Set::head_of, crate::specs::Set::set_fields, crate::specs::Set::bad_head, frame_rules::specs::Rules::bad_shape))]
+pub fn set_head(frame: &[u8], at: usize, stop: usize, seen: Places) -> Option<Set>
     ensures { result ≡ head_of frame.now at stop seen }
 {
     if frame.len() < stop {
-        return SetRead::Bad;
+        return None;
     }
-    let room = base_facts::less(stop, at);
+    let room = stop.saturating_sub(at);
     if room < 4 {
-        return SetRead::Bad;
+        return None;
     }
     let t = base_octets::octet(frame, at);
     let len = set_len(frame, at);
     let kn = base_octets::u32_at(frame, at + 4);
-    let Check::Passed = frame_rules::shape(t, len, room, kn, seen) else {
-        return SetRead::Bad;
+    let Some(()) = frame_rules::shape(t, len, room, kn, seen) else {
+        return None;
     };
-    SetRead::Good(Set {
+    Some(Set {
         place: at,
         len,
         kind: kinds::kind_at(frame, at, t, len),
@@ -56,16 +51,14 @@ pub fn set_head(frame: &[u8], at: usize, stop: usize, seen: Places) -> SetRead
 }
 
 // The set at `at`, by all rules.
-pub fn set_at(frame: &[u8], at: usize, stop: usize, seen: Places) -> SetRead
+#[tactic(auto, using(crate::proofs::Laws::set_steps))]
+pub fn set_at(frame: &[u8], at: usize, stop: usize, seen: Places) -> Option<Set>
     ensures { result ≡ set_of frame.now at stop seen }
 {
-    let SetRead::Good(set) = set_head(frame, at, stop, seen) else {
-        return SetRead::Bad;
-    };
-    let k = set.kind;
-    let len = set.len;
-    if frame_rules::list_len(kinds::type_of(k), len) % 16 == 0 {
-        return SetRead::Good(set);
+    let set = set_head(frame, at, stop, seen)?;
+    if frame_rules::list_len(kinds::type_of(set.kind), set.len) % 16 == 0 {
+        Some(set)
+    } else {
+        None
     }
-    SetRead::Bad
 }

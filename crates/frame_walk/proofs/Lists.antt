@@ -12,7 +12,7 @@ use Rattle.base_mi.specs.Entry.{entry_at}
 use Rattle.base_mi.specs.declared.Mi.{Mi}
 use Rattle.base_mi.specs.declared.entry.Entry.{Entry}
 use Rattle.frame_walk.specs.List.{entries_from, seek_entry}
-use Rattle.frame_walk.specs.declared.list.Found.TheVariants.{At, Nothing}
+use Rattle.std.specs.Prelude.{Some, None}
 
 pub length-entries : (n : ℕ) (s : List ℕ) (p : ℕ) → length (entries_from n s p) ≡ n
 unfolding entries_from
@@ -36,14 +36,16 @@ module _ (n : ℕ) (s : List ℕ) (p : ℕ) (m : Mi) where
       let h' : i < length (entries_from n s p) = omega arith in
       rw (add-one, drop-cons (entries_from n s p) i d h', get_or-entries n s p i d h)
 
-  pub seek_hit : (i : ℕ) → i < n → mi_same (entry_at s (p + i * 16)).mi m ≡ true → seek_entry m i (drop i (entries_from n s p)) ≡ At i (entry_at s (p + i * 16)).mn
+  pub seek_hit : (i : ℕ) → i < n → mi_same (entry_at s (p + i * 16)).mi m ≡ true → seek_entry m i (drop i (entries_from n s p)) ≡ Some (record { index = i; mn = (entry_at s (p + i * 16)).mn })
   seek_hit i h e = rw (headed i h, e)
 
   pub seek-miss : (i : ℕ) → i < n → mi_same (entry_at s (p + i * 16)).mi m ≡ false → seek_entry m (i + 1) (drop (i + 1) (entries_from n s p)) ≡ seek_entry m i (drop i (entries_from n s p))
   seek-miss i h e = rw (headed i h, e)
 
-  pub seek-end : (i : ℕ) → n ≤ i → seek_entry m i (drop i (entries_from n s p)) ≡ Nothing
+  pub seek-end : (i : ℕ) → n ≤ i → seek_entry m i (drop i (entries_from n s p)) ≡ None
   seek-end i h =
       let len = length-entries n s p in
       let h' : length (entries_from n s p) ≤ i = omega arith in
       rw (drop_of_length-le (entries_from n s p) h')
+
+pub ruleset seek_steps = (seek_hit, seek-miss, seek-end)

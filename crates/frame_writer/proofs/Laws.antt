@@ -2,8 +2,9 @@
 use Prim.Native.Nat.{ℕ, ◌+◌, ◌*◌, ◌%◌, ◌≤◌, ◌<◌, min}
 use mathlib.Core.Path.{◌≡◌, refl, ap, sym, ◌∙◌}
 use mathlib.Core.List.{List, [], ◌++◌, map}
-use mathlib.Core.Bool.{Bool, true, false, cond, not}
+use mathlib.Core.Bool.{Bool, true, false, cond}
 use native.Mathlib.Omega.{arith}
+use Rattle.std.specs.Prelude.{Option, Some, None, is_some, IfSome}
 use lib.Dec.{eqb}
 use lib.ListN.{length, length-map, length-append, length-take, length-replicate}
 use borrow.Author.Tests.{ne_eqb}
@@ -84,15 +85,6 @@ entries_of-le l = omega (arith, length-take (min l.count 16) l.entries)
 
 -- ---- the key sets
 
--- a part that a frame has not, and one that it has, by the test that asks the contrary
-pub no_part : (t : Bool) (a : List ℕ) → not t ≡ true → cond t a [] ≡ []
-no_part false a e = refl
-no_part true a e = let z : ◌≡◌ {A = ℕ} 0 1 = cc in absurd (omega arith)
-
-pub some-part : (t : Bool) (a : List ℕ) → not t ≡ false → cond t a [] ≡ a
-some-part true a e = refl
-some-part false a e = let z : ◌≡◌ {A = ℕ} 0 1 = cc in absurd (omega arith)
-
 pub length-key : (k : KeyUse) → length (use_octets k) ≡ 20
 unfolding use_octets
 length-key k = simp (length-append, length-be_of, length-mi)
@@ -101,17 +93,21 @@ pub length-use : (u : SakUse) → length (use_set u) ≡ 44
 unfolding use_set
 length-use u = simp (length-append, length-key)
 
-pub length-use_part : (t : Bool) (u : SakUse) → length (use_part t u) ≡ cond t 44 0
-length-use_part true u = length-use u
-length-use_part false u = refl
+pub length-use_part : (u : Option SakUse) → length (use_part u) ≡ cond (is_some u) 44 0
+length-use_part (Some u) = length-use u
+length-use_part None = refl
 
 pub length-sak : (k : Sak) → length k.wrapped ≡ 24 → length (sak_set k) ≡ 32
 unfolding sak_set
 length-sak k e = simp (length-append, length-be_of, e)
 
-pub length-sak_part : (t : Bool) (k : Sak) → length k.wrapped ≡ 24 → length (sak_part t k) ≡ cond t 32 0
-length-sak_part true k e = length-sak k e
-length-sak_part false k e = refl
+-- a key that is there has its 24 octets
+abbrev pub Wrapped : Option Sak → Type 0
+Wrapped k = IfSome k (λ x. length x.wrapped ≡ 24)
+
+pub length-sak_part : (k : Option Sak) → Wrapped k → length (sak_part k) ≡ cond (is_some k) 32 0
+length-sak_part (Some k) e = length-sak k e
+length-sak_part None e = refl
 
 -- ---- the whole
 
@@ -120,8 +116,8 @@ pub length-body : (m : Mkpdu)
     ≡ length (basic_octets m.sender)
     + (length (list_set 1 (entries_of m.live))
     + (length (list_set 2 (entries_of m.potential))
-    + (length (use_part m.used m.usage)
-    + (length (sak_part m.distributed m.sak)
+    + (length (use_part m.usage)
+    + (length (sak_part m.sak)
     + 16))))
 unfolding body_octets
 length-body m = simp (length-append, length-replicate)
@@ -154,16 +150,16 @@ list_set-le t es = rw (length-list_set t es) (cond-le (eqb (length es) 0) 0 (4 +
 pub entries-le : (t : ℕ) (l : Entries) → length (list_set t (entries_of l)) ≤ 260
 entries-le t l = omega (arith, list_set-le t (entries_of l), entries_of-le l)
 
-pub use-le : (t : Bool) (u : SakUse) → length (use_part t u) ≤ 44
-use-le t u = rw (length-use_part t u) (cond-le t 44 0 44 (omega arith) (omega arith))
+pub use-le : (u : Option SakUse) → length (use_part u) ≤ 44
+use-le u = rw (length-use_part u) (cond-le (is_some u) 44 0 44 (omega arith) (omega arith))
 
-pub sak-le : (t : Bool) (k : Sak) → length k.wrapped ≡ 24 → length (sak_part t k) ≤ 32
-sak-le t k e = rw (length-sak_part t k e) (cond-le t 32 0 32 (omega arith) (omega arith))
+pub sak-le : (k : Option Sak) → Wrapped k → length (sak_part k) ≤ 32
+sak-le k e = rw (length-sak_part k e) (cond-le (is_some k) 32 0 32 (omega arith) (omega arith))
 
 pub body-ge : (m : Mkpdu) → 48 ≤ length (body_octets m)
 body-ge m = omega (arith, length-body m, length-basic m.sender)
 
-pub body-le : (m : Mkpdu) → length m.sak.wrapped ≡ 24 → length (body_octets m) ≤ 676
+pub body-le : (m : Mkpdu) → Wrapped m.sak → length (body_octets m) ≤ 676
 body-le m e =
     omega (
       arith,
@@ -171,22 +167,22 @@ body-le m e =
       basic-le m.sender,
       entries-le 1 m.live,
       entries-le 2 m.potential,
-      use-le m.used m.usage,
-      sak-le m.distributed m.sak e,
+      use-le m.usage,
+      sak-le m.sak e,
     )
 
-pub body-four : (m : Mkpdu) → length m.sak.wrapped ≡ 24 → length (body_octets m) % 4 ≡ 0
+pub body-four : (m : Mkpdu) → Wrapped m.sak → length (body_octets m) % 4 ≡ 0
 body-four m e =
-    let u : cond m.used 44 0 % 4 ≡ 0 = cond-four m.used 44 0 refl refl in
-    let s : cond m.distributed 32 0 % 4 ≡ 0 = cond-four m.distributed 32 0 refl refl in
+    let u : cond (is_some m.usage) 44 0 % 4 ≡ 0 = cond-four (is_some m.usage) 44 0 refl refl in
+    let s : cond (is_some m.sak) 32 0 % 4 ≡ 0 = cond-four (is_some m.sak) 32 0 refl refl in
     omega (
       arith,
       length-body m,
       basic-four m.sender,
       list_set-four 1 (entries_of m.live),
       list_set-four 2 (entries_of m.potential),
-      length-use_part m.used m.usage,
-      length-sak_part m.distributed m.sak e,
+      length-use_part m.usage,
+      length-sak_part m.sak e,
     )
 
 -- ---- the whole's length by what a frame has
@@ -199,8 +195,8 @@ pub frame-sized : (m : Mkpdu)
     → length m.sender.ckn ≡ 32
     → length m.live.entries ≡ 16
     → length m.potential.entries ≡ 16
-    → length m.sak.wrapped ≡ 24
-    → length (frame_of m) ≡ frame_size m.sender.size m.live.count m.potential.count m.used m.distributed
+    → Wrapped m.sak
+    → length (frame_of m) ≡ frame_size m.sender.size m.live.count m.potential.count (is_some m.usage) (is_some m.sak)
 unfolding frame_size
 frame-sized m ckn live potential wrapped =
     omega (
@@ -211,8 +207,8 @@ frame-sized m ckn live potential wrapped =
       length-ckn_of m.sender ckn,
       list-sized 1 m.live live,
       list-sized 2 m.potential potential,
-      length-use_part m.used m.usage,
-      length-sak_part m.distributed m.sak wrapped,
+      length-use_part m.usage,
+      length-sak_part m.sak wrapped,
     )
 
 -- and its bounds

@@ -19,7 +19,7 @@ pub stored : (l l1 l2 l3 l4 : List ℕ) (m : Mkpdu) (a b c : ℕ)
     → l1 ≡ sets l 0 (header_octets (length (body_octets m)) ++ basic_octets m.sender)
     → l2 ≡ sets l1 a (list_set 1 (entries_of m.live))
     → l3 ≡ sets l2 b (list_set 2 (entries_of m.potential))
-    → l4 ≡ sets l3 c (use_part m.used m.usage ++ (sak_part m.distributed m.sak ++ replicate 16 0))
+    → l4 ≡ sets l3 c (use_part m.usage ++ (sak_part m.sak ++ replicate 16 0))
     → l4 ≡ sets l 0 (frame_of m)
 unfolding frame_of body_octets
 stored l l1 l2 l3 l4 m a b c ea eb ec e1 e2 e3 e4 =
@@ -27,7 +27,7 @@ stored l l1 l2 l3 l4 m a b c ea eb ec e1 e2 e3 e4 =
     let p = basic_octets m.sender in
     let q = list_set 1 (entries_of m.live) in
     let r = list_set 2 (entries_of m.potential) in
-    let z : List ℕ = use_part m.used m.usage ++ (sak_part m.distributed m.sak ++ replicate 16 0) in
+    let z : List ℕ = use_part m.usage ++ (sak_part m.sak ++ replicate 16 0) in
     let n : a ≡ 0 + length (h ++ p) = omega (arith, length-append h p, length-header (length (body_octets m))) in
     sets-on l l1 l4 0 a (h ++ p) (q ++ (r ++ z)) n e1
     (sets-on l1 l2 l4 a b q (r ++ z) eb e2

@@ -1,6 +1,8 @@
 -- "Sending": the octets of a frame that is sent.
-use Rattle.std.specs.Prelude.{ℕ, ◌+◌, ◌-◌, ◌*◌, ◌/◌, ◌%◌, min, List, [], ◌∷◌, ◌++◌, Bool, cond, length, take, replicate, ltb, eqb}
-use Rattle.base_facts.specs.Facts.{padded_of}
+use Rattle.std.specs.Prelude.{ℕ, ◌+◌, ◌-◌, ◌*◌, ◌/◌, ◌%◌, min, List, [], ◌∷◌, ◌++◌, Bool, cond, length, take, replicate, ltb, eqb, Option, Some, None, Result}
+use Rattle.base_facts.specs.Facts.{first_of, padded_of}
+use Rattle.base_facts.specs.Refusal.{told}
+use Rattle.base_facts.specs.declared.Refusal.{Refusal}
 use Rattle.base_facts.specs.Numbers.{agility}
 use Rattle.base_octets.specs.Number.{be_of}
 use Rattle.base_octets.specs.Run.{runs_of}
@@ -17,8 +19,6 @@ use Rattle.frame_sets.specs.declared.kinds.SakUse.{SakUse}
 use Rattle.frame_writer.specs.declared.Sender.{Sender}
 use Rattle.frame_writer.specs.declared.Sak.{Sak}
 use Rattle.frame_writer.specs.declared.Mkpdu.{Mkpdu}
-use Rattle.frame_writer.specs.declared.Wrote.{Wrote}
-use Rattle.frame_writer.specs.declared.Wrote.TheVariants.{Octets, Refused}
 
 -- "Header: version, type, 2-octet body length"; "EAPOL version 3"
 unfoldable pub header_octets : ℕ → List ℕ
@@ -67,15 +67,17 @@ use_octets k = mi_octets k.mi ++ (be_of 4 k.kn ++ be_of 4 k.pn)
 unfoldable pub use_set : SakUse → List ℕ
 use_set u = set_header 3 (used_octet (record { latest = use_flags u.latest; old = use_flags u.old })) 40 ++ (use_octets u.latest ++ use_octets u.old)
 
-abbrev pub use_part : Bool → SakUse → List ℕ
-use_part used u = cond used (use_set u) []
+abbrev pub use_part : Option SakUse → List ℕ
+use_part None = []
+use_part (Some u) = use_set u
 
 -- "Distributed SAK of 28"
 unfoldable pub sak_set : Sak → List ℕ
 sak_set k = set_header 4 (sak_octet (record { an = k.an; confidentiality = k.confidentiality })) 28 ++ (be_of 4 k.kn ++ k.wrapped)
 
-abbrev pub sak_part : Bool → Sak → List ℕ
-sak_part distributed k = cond distributed (sak_set k) []
+abbrev pub sak_part : Option Sak → List ℕ
+sak_part None = []
+sak_part (Some k) = sak_set k
 
 -- "Sets in order: Basic; Live, Potential (..); SAK Use ..; Distributed SAK of 28 ..; 16 zero octets for the ICV."
 unfoldable pub body_octets : Mkpdu → List ℕ
@@ -83,8 +85,8 @@ body_octets m =
     basic_octets m.sender
     ++ (list_set 1 (entries_of m.live)
     ++ (list_set 2 (entries_of m.potential)
-    ++ (use_part m.used m.usage
-    ++ (sak_part m.distributed m.sak
+    ++ (use_part m.usage
+    ++ (sak_part m.sak
     ++ replicate 16 0))))
 
 -- A list of n entries: a header of 4 octets and "MI 12, MN 4, repeated", "only if not empty".
@@ -100,5 +102,5 @@ unfoldable pub frame_of : Mkpdu → List ℕ
 frame_of m = header_octets (length (body_octets m)) ++ body_octets m
 
 -- 13: "lent output too short for the whole output"; otherwise the length of what was written.
-abbrev pub wrote_of : ℕ → ℕ → Wrote
-wrote_of n room = cond (ltb room n) (Refused 13) (Octets n)
+abbrev pub wrote_of : ℕ → ℕ → Result ℕ Refusal
+wrote_of n room = told (first_of ((13, ltb room n) ∷ [])) n

@@ -15,9 +15,9 @@ pub(crate) fn put_header(out: &mut [u8], body: u16)
     base_octets::put_u16(out, 2, body);
 }
 
-fn put_fixed(out: &mut [u8], x: Sender, n: u8)
+fn put_fixed(out: &mut [u8], x: &Sender, n: u8)
     requires { n ≤ 32 }
-    ensures { out.new ≡ sets out.old 4 (fixed_octets x n) }
+    ensures { out.new ≡ sets out.old 4 (fixed_octets x.now n) }
 {
     let f = Flags {
         server: x.server,
@@ -25,13 +25,12 @@ fn put_fixed(out: &mut [u8], x: Sender, n: u8)
         capability: x.capability,
         high: 0,
     };
-    let m = x.mi;
     base_octets::put_octet(out, 4, 1);
     base_octets::put_octet(out, 5, x.priority);
-    base_octets::put_octet(out, 6, base_packed::basic::pack(f));
+    base_octets::put_octet(out, 6, u8::from(f));
     base_octets::put_octet(out, 7, 28 + n);
     base_octets::put_u64(out, 8, x.sci);
-    base_mi::put_mi(out, 16, m);
+    base_mi::put_mi(out, 16, x.mi);
     base_octets::put_u32(out, 28, x.mn);
     base_octets::put_u32(out, 32, AGILITY);
 }
@@ -43,16 +42,16 @@ fn put_ckn(out: &mut [u8], ckn: &[u8])
 {
     base_runs::put_all(out, 36, ckn);
     let n = ckn.len();
-    base_runs::put_zeros(out, 36 + n, ((n + 3) / 4 * 4 - n) as u16);
+    base_runs::put_zeros(out, 36 + n, (n.next_multiple_of(4) - n) as u16);
 }
 
 // The place after the set.
-pub(crate) fn put_basic(out: &mut [u8], x: Sender) -> usize
-    ensures { (result ≡ 4 + length (basic_octets x)) × (out.new ≡ sets out.old 4 (basic_octets x)) }
+pub(crate) fn put_basic(out: &mut [u8], x: &Sender) -> usize
+    ensures { (result ≡ 4 + length (basic_octets x.now)) × (out.new ≡ sets out.old 4 (basic_octets x.now)) }
 {
-    let n = base_facts::at_most(x.size, 32);
-    let ckn = x.ckn;
+    let ckn = &x.ckn[..x.size.min(32)];
+    let n = ckn.len();
     put_fixed(out, x, n as u8);
-    put_ckn(out, &ckn[..n]);
-    36 + (n + 3) / 4 * 4
+    put_ckn(out, ckn);
+    36 + n.next_multiple_of(4)
 }

@@ -22,47 +22,43 @@ fn put_key(out: &mut [u8], at: usize, k: KeyUse)
     requires { at < 2 ^ 63 }
     ensures { out.new ≡ sets out.old at (use_octets k) }
 {
-    let m = k.mi;
-    base_mi::put_mi(out, at, m);
+    base_mi::put_mi(out, at, k.mi);
     base_octets::put_u32(out, at + 12, k.kn);
     base_octets::put_u32(out, at + 16, k.pn);
 }
 
 // The place after the set, if the frame has one.
-pub(crate) fn put_use(out: &mut [u8], at: usize, used: bool, u: SakUse) -> usize
+pub(crate) fn put_use(out: &mut [u8], at: usize, usage: Option<SakUse>) -> usize
     requires { at < 2 ^ 62 }
-    ensures { (result ≡ at + length (use_part used u)) × (out.new ≡ sets out.old at (use_part used u)) }
+    ensures { (result ≡ at + length (use_part usage)) × (out.new ≡ sets out.old at (use_part usage)) }
 {
-    if !used {
+    let Some(u) = usage else {
         return at;
-    }
-    let latest = u.latest;
-    let old = u.old;
-    let flags = base_packed::used::pack(Used {
-        latest: key_flags(latest),
-        old: key_flags(old),
+    };
+    let flags = u8::from(Used {
+        latest: key_flags(u.latest),
+        old: key_flags(u.old),
     });
     lists::put_set_header(out, at, 3, flags, 40);
-    put_key(out, at + 4, latest);
-    put_key(out, at + 24, old);
+    put_key(out, at + 4, u.latest);
+    put_key(out, at + 24, u.old);
     at + 44
 }
 
 // The place after the set, if the frame has one.
-pub(crate) fn put_sak(out: &mut [u8], at: usize, distributed: bool, k: Sak) -> usize
+pub(crate) fn put_sak(out: &mut [u8], at: usize, sak: Option<Sak>) -> usize
     requires { at < 2 ^ 62 }
-    ensures { (result ≡ at + length (sak_part distributed k)) × (out.new ≡ sets out.old at (sak_part distributed k)) }
+    ensures { (result ≡ at + length (sak_part sak)) × (out.new ≡ sets out.old at (sak_part sak)) }
 {
-    if !distributed {
+    let Some(k) = sak else {
         return at;
-    }
-    let wrapped = k.wrapped;
-    let flags = base_packed::sak::pack(SakFlags {
+    };
+    let flags = u8::from(SakFlags {
         an: k.an,
         confidentiality: k.confidentiality,
     });
     lists::put_set_header(out, at, 4, flags, 28);
     base_octets::put_u32(out, at + 4, k.kn);
-    base_runs::put_all(out, at + 8, &wrapped);
+    base_runs::put_all(out, at + 8, &k.wrapped);
     at + 32
 }

@@ -6,7 +6,7 @@ ghost use Rattle.std.proofs.lemmas.List.Edits.{sets};
 ghost use Rattle.base_octets.specs.Run.{written};
 ghost use Rattle.frame_writer.specs.Frame.{header_octets, basic_octets, set_header, use_part, sak_part, list_size, frame_size, frame_of, wrote_of};
 
-use base_facts::Check;
+use base_facts::Refusal;
 use base_mi::Mi;
 use base_mi::entry::Entries;
 use frame_sets::kinds::SakUse;
@@ -15,7 +15,8 @@ mod basic;
 mod keys;
 mod lists;
 
-// What the Basic set says of its sender; the CKN is the first `size` octets, at most 32.
+// What the Basic set says of its sender; the CKN is the first `size` octets, at most 32. No slice: the array comes out of the participant's
+// record, which has it so, and a frame's value is read back whole (law_round).
 #[derive(Clone, Copy)]
 pub struct Sender {
     pub priority: u8,
@@ -38,33 +39,24 @@ pub struct Sak {
     pub wrapped: [u8; 24],
 }
 
-// `used` and `distributed` say whether the frame has a SAK Use and a Distributed SAK set; a list stands in it if it isn't empty.
+// A list stands in the frame if it isn't empty.
 #[derive(Clone, Copy)]
 pub struct Mkpdu {
     pub sender: Sender,
     pub live: Entries,
     pub potential: Entries,
-    pub used: bool,
-    pub usage: SakUse,
-    pub distributed: bool,
-    pub sak: Sak,
-}
-
-#[derive(Clone, Copy)]
-pub enum Wrote {
-    Octets(usize),
-    Refused(u8),
+    pub usage: Option<SakUse>,
+    pub sak: Option<Sak>,
 }
 
 // A list's header and entries; a count above 16 is taken as 16.
 fn list_size(count: usize) -> usize
     ensures { (result ≡ list_size (min count 16)) × (result ≤ 260) }
 {
-    let n = base_facts::at_most(count, 16);
-    if n == 0 {
-        return 0;
+    match count.min(16) {
+        0 => 0,
+        n => 4 + n * 16,
     }
-    4 + n * 16
 }
 
 // What a set of n octets adds, if the frame has it.
@@ -74,7 +66,7 @@ fn size_if(there: bool, n: usize) -> usize
     if there { n } else { 0 }
 }
 
-// The octets of a frame, by its CKN's size, its lists' counts and the key sets that it has.
+// The octets of a frame, by its CKN's size, its lists' counts and the key sets that it has; of those it asks only whether they are there.
 pub fn frame_size(
     size: usize,
     live: usize,
@@ -84,16 +76,15 @@ pub fn frame_size(
 ) -> usize
     ensures { result ≡ frame_size size live potential used distributed }
 {
-    let n = base_facts::at_most(size, 32);
-    let basic = 36 + (n + 3) / 4 * 4;
+    let basic = 36 + size.min(32).next_multiple_of(4);
     let lists = list_size(live) + list_size(potential);
     let keys = size_if(used, 44) + size_if(distributed, 32);
     basic + lists + keys + 16
 }
 
 // The EAPOL header, for a body of `body` octets, and the Basic set; the place after it.
-pub fn put_start(out: &mut [u8], body: u16, x: Sender) -> usize
-    ensures { (result ≡ 4 + length (basic_octets x)) × (out.new ≡ sets out.old 0 (header_octets body ++ basic_octets x)) }
+pub fn put_start(out: &mut [u8], body: u16, x: &Sender) -> usize
+    ensures { (result ≡ 4 + length (basic_octets x.now)) × (out.new ≡ sets out.old 0 (header_octets body ++ basic_octets x.now)) }
 {
     basic::put_header(out, body);
     basic::put_basic(out, x)
@@ -107,29 +98,30 @@ pub fn put_list_head(out: &mut [u8], at: u16, t: u8, n: u8)
 }
 
 // The key sets that the frame has, and zeros for the ICV.
-pub fn put_end(out: &mut [u8], at: u16, used: bool, usage: SakUse, distributed: bool, sak: Sak)
-    ensures { out.new ≡ sets out.old at (use_part used usage ++ (sak_part distributed sak ++ replicate 16 0)) }
+pub fn put_end(out: &mut [u8], at: u16, usage: Option<SakUse>, sak: Option<Sak>)
+    ensures { out.new ≡ sets out.old at (use_part usage ++ (sak_part sak ++ replicate 16 0)) }
 {
-    let d = keys::put_use(out, at as usize, used, usage);
-    let e = keys::put_sak(out, d, distributed, sak);
+    let d = keys::put_use(out, at as usize, usage);
+    let e = keys::put_sak(out, d, sak);
     base_runs::put_zeros(out, e, 16);
 }
 
-pub fn write(out: &mut [u8], m: Mkpdu) -> Wrote
+pub fn write(out: &mut [u8], m: Mkpdu) -> Result<usize, Refusal>
     ensures { (result ≡ wrote_of (length (frame_of m)) (length out.old)) × (out.new ≡ written out.old (frame_of m)) }
 {
-    let x = m.sender;
-    let live = m.live;
-    let potential = m.potential;
-    let total = frame_size(x.size, live.count, potential.count, m.used, m.distributed);
-    let Check::Passed = base_facts::fail_if(out.len() < total) else {
-        return Wrote::Refused(13);
+    let total = frame_size(
+        m.sender.size,
+        m.live.count,
+        m.potential.count,
+        m.usage.is_some(),
+        m.sak.is_some(),
+    );
+    let Some(()) = base_facts::fail_if(out.len() < total) else {
+        return Err(Refusal::NoRoom);
     };
-    let usage = m.usage;
-    let sak = m.sak;
-    let a = put_start(out, (total - 4) as u16, x);
-    let b = lists::put_list(out, a, 1, live);
-    let c = lists::put_list(out, b, 2, potential);
-    put_end(out, c as u16, m.used, usage, m.distributed, sak);
-    Wrote::Octets(total)
+    let a = put_start(out, (total - 4) as u16, &m.sender);
+    let b = lists::put_list(out, a, 1, &m.live);
+    let c = lists::put_list(out, b, 2, &m.potential);
+    put_end(out, c as u16, m.usage, m.sak);
+    Ok(total)
 }

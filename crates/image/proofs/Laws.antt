@@ -1,9 +1,9 @@
 -- How long the parts of an image are, and the image as it is stored.
-use Prim.Native.Nat.{ℕ, ◌+◌, ◌*◌, min}
+use Prim.Native.Nat.{ℕ, ◌+◌, ◌*◌}
 use mathlib.Core.Path.{◌≡◌, ap, sym, ◌∙◌}
 use mathlib.Core.List.{List, ◌++◌, append_assoc, append-nil}
 use native.Mathlib.Omega.{arith}
-use lib.ListN.{length, length-append, length-take}
+use lib.ListN.{length, length-append}
 use lib.Seq.{sets}
 use Rattle.base_octets.proofs.Stores.{sets-on, length_runs}
 use Rattle.base_packed.specs.Bit.{bit}
@@ -22,9 +22,6 @@ use Rattle.image_key.proofs.Laws.{length-key}
 use Rattle.image_own.proofs.Lengths.{length-own}
 use Rattle.image.specs.Image.{own_part, peers_part, keys_part, contents_for, image_of}
 
-pub length-entries : (t : Table) → length t.peers ≡ 16 → length (entries t) ≡ min t.count 16
-length-entries t e = length-take (min t.count 16) t.peers ∙ omega arith
-
 pub length-peers : (t : Table) → length (peers_octets (entries t)) ≡ length (entries t) * 44
 unfolding peers_octets
 length-peers t = length_runs peer_octets 44 length-peer (entries t)
@@ -36,32 +33,20 @@ pub length-contents : (n k : ℕ) → length (contents_for n k) ≡ 28
 unfolding contents_for
 length-contents n k = simp (length-append, length-head, length-entry)
 
--- the image of n peers, whose own record has its length
-module _ (p : Participant) (n : ℕ) (ckn : length p.ckn ≡ 32) (wrapped : length p.wrapped ≡ 24) (many : length (entries p.table) ≡ n) where
+-- the image of a participant whose own record has its length
+module _ (p : Participant) (ckn : length p.ckn ≡ 32) (wrapped : length p.wrapped ≡ 24) where
   pub image-is :
       image_of p
-      ≡ contents_for n (bit p.latest.held + bit p.old.held)
+      ≡ contents_for (length (entries p.table)) (bit p.latest.held + bit p.old.held)
       ++ (own_octets p ++ (peers_octets (entries p.table) ++ (slot_octets p.latest ++ slot_octets p.old)))
   unfolding image_of laid_of contents_entries bodies own_part peers_part keys_part contents_for
-  image-is =
-      let own = length-own p ckn wrapped in
-      let peers = length-peers p.table in
-      simp (own, peers, many, append-nil, append_assoc)
+  image-is = simp (length-own p ckn wrapped, length-peers, append-nil, append_assoc)
 
-  pub length-image : length (image_of p) ≡ 144 + n * 44 + bit p.latest.held * 28 + bit p.old.held * 28
-  length-image =
-      let own = length-own p ckn wrapped in
-      let peers = length-peers p.table in
-      let contents = length-contents n (bit p.latest.held + bit p.old.held) in
-      let latest = length-slot p.latest in
-      let old = length-slot p.old in
-      let e = length-append (slot_octets p.latest) (slot_octets p.old) in
-      let f = length-append (peers_octets (entries p.table)) (slot_octets p.latest ++ slot_octets p.old) in
-      let g = length-append (own_octets p) (peers_octets (entries p.table) ++ (slot_octets p.latest ++ slot_octets p.old)) in
-      ap length image-is ∙ length-append (contents_for n (bit p.latest.held + bit p.old.held)) _ ∙ omega arith
+  pub length-image : length (image_of p) ≡ 144 + length (entries p.table) * 44 + bit p.latest.held * 28 + bit p.old.held * 28
+  length-image = ap length image-is ∙ simp (length-append, length-contents, length-own p ckn wrapped, length-peers, length-slot) (omega arith)
 
-  -- its parts, each stored where the last one ended
-  pub image-stored : (l l1 l2 l3 l4 l5 : List ℕ) (k keys next : ℕ)
+  -- its parts, each stored where the last one ended, if n peers are held
+  pub image-stored : (n : ℕ) → length (entries p.table) ≡ n → (l l1 l2 l3 l4 l5 : List ℕ) (k keys next : ℕ)
       → k ≡ bit p.latest.held + bit p.old.held
       → keys ≡ 144 + n * 44
       → next ≡ keys + bit p.latest.held * 28
@@ -71,13 +56,14 @@ module _ (p : Participant) (n : ℕ) (ckn : length p.ckn ≡ 32) (wrapped : leng
       → l4 ≡ sets l3 keys (slot_octets p.latest)
       → l5 ≡ sets l4 next (slot_octets p.old)
       → l5 ≡ sets l 0 (image_of p)
-  image-stored l l1 l2 l3 l4 l5 k keys next ek ekeys enext e1 e2 e3 e4 e5 =
+  image-stored n many l l1 l2 l3 l4 l5 k keys next ek ekeys enext e1 e2 e3 e4 e5 =
       let own = own_octets p in
       let peers = peers_octets (entries p.table) in
       let a = slot_octets p.latest in
       let b = slot_octets p.old in
       sets-on l l1 l5 0 28 (contents_for n k) (own ++ (peers ++ (a ++ b))) (omega (arith, length-contents n k)) e1
       (sets-on l1 l2 l5 28 144 own (peers ++ (a ++ b)) (omega (arith, length-own p ckn wrapped)) e2
-      (sets-on l2 l3 l5 144 keys peers (a ++ b) (omega (arith, length-peers p.table)) e3 (sets-on l3 l4 l5 keys next a b (omega (arith, length-slot p.latest)) e4 e5)))
+      (sets-on l2 l3 l5 144 keys peers (a ++ b) (omega (arith, length-peers p.table, many)) e3 (sets-on l3 l4 l5 keys next a b (omega (arith, length-slot p.latest)) e4 e5)))
       ∙ ap (λ (j : ℕ). sets l 0 (contents_for n j ++ (own ++ (peers ++ (a ++ b))))) ek
+      ∙ ap (λ (j : ℕ). sets l 0 (contents_for j (bit p.latest.held + bit p.old.held) ++ (own ++ (peers ++ (a ++ b))))) (sym many)
       ∙ ap (sets l 0) (sym image-is)

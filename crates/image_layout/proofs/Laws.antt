@@ -1,18 +1,16 @@
 -- How long the parts of an image are, and one turn of the loop that judges an image.
-use Prim.Native.Nat.{ℕ, suc, ◌+◌, ◌*◌, ◌^◌, ◌≤◌, ◌<◌}
+use Prim.Native.Nat.{ℕ, suc, ◌+◌, ◌*◌, ◌≤◌, ◌<◌}
 use mathlib.Core.Path.{◌≡◌, refl, ap, sym, ◌∙◌}
-use mathlib.Core.Bool.{false, ◌&&◌}
+use mathlib.Core.Bool.{◌&&◌}
 use mathlib.Core.List.{List, [], ◌∷◌, ◌++◌}
-use native.Mathlib.Nat.{mul-le-mul}
 use native.Mathlib.Numerals.{add-one}
 use native.Mathlib.Omega.{arith}
 use lib.ListN.{length, get_or, drop, length-append, drop_of_length-le}
 use lib.Dec.{eqb}
 use lib.Seq.{sets, drop-cons}
-use borrow.Author.Tests.{eq-eqb, ne_eqb}
+use borrow.Author.Tests.{eq-eqb}
 use Rattle.base_octets.specs.Number.{be_at, be_of}
-use Rattle.base_octets.specs.Octets.{Octets}
-use Rattle.base_octets.proofs.Laws.{be_at-lt, length-be_of, sets_then}
+use Rattle.base_octets.proofs.Laws.{length-be_of, sets_then}
 use Rattle.image_layout.specs.Layout.{Part, contents_head, contents_entry, contents_entries, bodies, place, laid_of, entry_kind, records_at, offset_at, laid_from, laid_out}
 
 -- ---- lengths
@@ -61,33 +59,16 @@ entry-stored l l1 l2 l3 at kind records offset e1 e2 e3 =
 
 -- ---- one turn of `laid_out`
 
--- the records and the size are numbers of two octets
-pub body_below : (s : List ℕ) (at n k : ℕ) → Octets s → n ≡ be_at s at 2 → k < 2 ^ 16 → n * k < 2 ^ 32
-body_below s at n k h e hk =
-    let a : n ≤ 65535 = omega (arith, be_at-lt s at 2 h) in
-    let b : k ≤ 65535 = omega arith in
-    omega (arith, mul-le-mul a b)
-
 -- the count and the zero hold: what is left is the entries
 pub laid-counted : (s sizes : List ℕ) → be_at s 0 2 ≡ length sizes → be_at s 2 2 ≡ 0 → laid_from s 0 (place (length sizes)) sizes ≡ laid_out s sizes
 unfolding laid_out
 laid-counted s sizes n z = rw (eq-eqb _ _ n, eq-eqb _ _ z)
 
 module _ (s sizes : List ℕ) (i at : ℕ) where
-  laid_next : i < length sizes
-      → laid_from s i at (drop i sizes) ≡ eqb (entry_kind s i) (i + 1) && (eqb (offset_at s i) at && laid_from s (i + 1) (at + records_at s i * get_or sizes i 0) (drop (i + 1) sizes))
-  unfolding laid_from
+  pub laid_next : i < length sizes
+      → laid_from s i at (drop i sizes) ≡ eqb (be_at s (place i) 2) (i + 1) && (eqb (be_at s (place i + 4) 4) at && laid_from s (i + 1) (at + be_at s (place i + 2) 2 * get_or sizes i 0) (drop (i + 1) sizes))
+  unfolding laid_from entry_kind records_at offset_at
   laid_next h = ap (laid_from s i at) (drop-cons sizes i 0 h ∙ ap (λ (n : ℕ). get_or sizes i 0 ∷ drop n sizes) (sym (add-one i)))
-
-  pub laid-kind : i < length sizes → (entry_kind s i ≡ i + 1 → ⊥) → laid_from s i at (drop i sizes) ≡ false
-  laid-kind h ne = rw (laid_next h, ne_eqb _ _ ne)
-
-  pub laid-offset : i < length sizes → entry_kind s i ≡ i + 1 → (offset_at s i ≡ at → ⊥) → laid_from s i at (drop i sizes) ≡ false
-  laid-offset h e ne = rw (laid_next h, eq-eqb _ _ e, ne_eqb _ _ ne)
-
-  pub laid-turn : i < length sizes → entry_kind s i ≡ i + 1 → offset_at s i ≡ at
-      → laid_from s (i + 1) (at + records_at s i * get_or sizes i 0) (drop (i + 1) sizes) ≡ laid_from s i at (drop i sizes)
-  laid-turn h e o = rw (laid_next h, eq-eqb _ _ e, eq-eqb _ _ o)
 
   pub laid_end : length sizes ≤ i → laid_from s i at (drop i sizes) ≡ eqb at (length s)
   unfolding laid_from

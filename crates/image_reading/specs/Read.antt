@@ -31,21 +31,18 @@ clean s =
     && (peers_clean s (offset_at s 1) (records_at s 1)
     && (slot_clean s (key_place s 0) (ltb 0 (records_at s 2)) && slot_clean s (key_place s 1) (ltb 1 (records_at s 2))))
 
--- What an image tells, but for its peers.
-abbrev pub told_but_peers : List ℕ → Participant
-told_but_peers s =
-    set_latest (slot_at s (key_place s 0) (ltb 0 (records_at s 2)))
-    (set_old (slot_at s (key_place s 1) (ltb 1 (records_at s 2)))
-    (own_at s (offset_at s 0)))
-
 -- What an image tells.
 unfoldable pub told_by : List ℕ → Participant
-told_by s = set_table (table_of (peers_at s (offset_at s 1) (min (records_at s 1) 16))) (told_but_peers s)
+told_by s =
+    set_table (table_of (peers_at s (offset_at s 1) (min (records_at s 1) 16)))
+    (set_latest (slot_at s (key_place s 0) (ltb 0 (records_at s 2)))
+    (set_old (slot_at s (key_place s 1) (ltb 1 (records_at s 2)))
+    (own_at s (offset_at s 0))))
 
 -- "Well formed"
 unfoldable pub well_formed : List ℕ → Bool
 well_formed s = laid_out s sizes && (numbers_good s && (clean s && rules (told_by s)))
 
 -- Read: 16.
-unfoldable pub read_of : List ℕ → Called
+unfoldable pub read_of : List ℕ → Called (Unit {0})
 read_of s = settle empty_participant ((16, not (well_formed s)) ∷ []) (told_by s)

@@ -92,9 +92,9 @@ whole : (s u t w r x y d n a : Bool)
     → ((s && (u && t)) && ((w && r) && (x && (y && (d && (n && a)))))) ≡ (s && (w && (x && (y && (u && (t && (r && (d && (n && a)))))))))
 whole s u t w r x y d n a = simp (and_assoc, and-swap)
 
-pub by-record : (p : Participant) → rules p ≡ (own_good p && (peers_good p.mi p.clock (entries p.table) && keys_good p))
+pub by_record : (p : Participant) → rules p ≡ (own_good p && (peers_good p.mi p.clock (entries p.table) && keys_good p))
 unfolding rules own_good
-by-record p =
+by_record p =
     let l = entries p.table in
     sym
     (ap₂ (λ (x y : Bool). own_good p && (x && y)) (peers-by-rule p.mi p.clock l) (keys-by-rule p)

@@ -1,12 +1,11 @@
 -- What each call leaves alone, accepted or refused: the participant afterwards is the one before with the named fields set; and what it
 -- sets. Proved in FieldsArgument.
-use Rattle.std.specs.Prelude.{ℕ, ◌+◌, ◌<◌, ◌≡◌, Bool, false, List, replicate}
+use Rattle.std.specs.Prelude.{ℕ, ◌+◌, ◌<◌, ◌≡◌, Bool, false, List, replicate, Ok}
 use Rattle.base_mi.specs.declared.Mi.{Mi}
 use Rattle.table.specs.Table.{empty_table}
 use Rattle.table_expiry.specs.Expiry.{expired}
 use Rattle.participant.specs.declared.Slot.{Slot}
 use Rattle.participant.specs.declared.Participant.{Participant}
-use Rattle.participant.specs.declared.call.Answer.TheVariants.{Done}
 use Rattle.participant.specs.Record.{first24, set_mi, set_mn, set_mark, set_clock, set_sent, set_kn, set_distributed, set_wrapped, set_table, set_latest, set_old}
 use Rattle.call_tick.specs.Tick.{ticked}
 use Rattle.call_creation.specs.Create.{fresh, created_of}
@@ -20,19 +19,7 @@ TickLeaves = (p : Participant) (time : ℕ) → let q = (ticked p time).particip
 
 -- A key with what the host reported of it set.
 abbrev pub set_flags : Bool → Bool → Slot → Slot
-set_flags receive transmit s =
-    record {
-      held = s.held;
-      key = record {
-        mi = s.key.mi;
-        kn = s.key.kn;
-        suite = s.key.suite;
-        an = s.key.an;
-        confidentiality = s.key.confidentiality;
-        receive = receive;
-        transmit = transmit;
-      };
-    }
+set_flags receive transmit s = record s { key = record s.key { receive = receive; transmit = transmit } }
 
 -- of the keys, only the flags of the latest
 abbrev pub ReportLeaves : Type 0
@@ -63,7 +50,7 @@ pub record Handed (p : Participant) (time : ℕ) (w : List ℕ) (q : Participant
   pub old : q.old ≡ p.latest
 
 abbrev pub DistributeHands : Type 0
-DistributeHands = (p : Participant) (time : ℕ) (w : List ℕ) → (distributed_of p time w).answer ≡ Done → Handed p time w (distributed_of p time w).participant
+DistributeHands = (p : Participant) (time : ℕ) (w : List ℕ) → (distributed_of p time w).answer ≡ Ok tt → Handed p time w (distributed_of p time w).participant
 
 -- "AN .. modulo 4"
 abbrev pub AnBelow : Type 0
@@ -90,10 +77,10 @@ CreateEmpty =
 
 -- an accepted new MI empties all of it but the keys
 abbrev pub NewMiEmpties : Type 0
-NewMiEmpties = (p : Participant) (time : ℕ) (m : Mi) → (new_mi_of p time m).answer ≡ Done → let q = (new_mi_of p time m).participant in Empty q × (q.mi ≡ m)
+NewMiEmpties = (p : Participant) (time : ℕ) (m : Mi) → (new_mi_of p time m).answer ≡ Ok tt → let q = (new_mi_of p time m).participant in Empty q × (q.mi ≡ m)
 
 -- an accepted report is of the latest key, whose flag it sets
 abbrev pub ReportSets : Type 0
 ReportSets =
-    (p : Participant) (m : Mi) (kn : ℕ) (transmit : Bool) → (reported p m kn transmit).answer ≡ Done
+    (p : Participant) (m : Mi) (kn : ℕ) (transmit : Bool) → (reported p m kn transmit).answer ≡ Ok tt
     → (misreported p.latest m kn transmit ≡ false) × ((reported p m kn transmit).participant.latest ≡ installed p.latest transmit)

@@ -1,11 +1,11 @@
 -- Why: by the definition of each call, a refusal leaving all.
 use Rattle.std.specs.Prelude.{ℕ, ◌≡◌, refl, Bool, true, List, [], ◌∷◌, length}
-use Rattle.std.proofs.Common.{ap, sym, ◌∙◌, arith}
+use Rattle.std.proofs.Common.{ap, arith}
 use Rattle.law_lists.proofs.Laws.{by_cases}
 use Rattle.participant.specs.declared.Participant.{Participant}
 use Rattle.participant.specs.declared.call.Called.{Called}
 use Rattle.participant.specs.Record.{first24, set_mi, set_mn, set_mark, set_clock, set_sent, set_kn, set_distributed, set_wrapped, set_table, set_latest, set_old}
-use Rattle.participant.specs.Call.{settle, fact1, aged_to}
+use Rattle.participant.specs.Call.{done_of, settle, fact1, aged_to}
 use Rattle.call_tick.specs.Tick.{ticked}
 use Rattle.call_creation.specs.Create.{bad_start, fresh, empty_participant, created_of}
 use Rattle.participant.specs.Keys.{no_slot, with_key}
@@ -13,13 +13,13 @@ use Rattle.call_new_mi.specs.Renew.{renewed, new_mi_facts, new_mi_of}
 use Rattle.call_report.specs.Report.{installed, report_facts, reported}
 use Rattle.call_distribute.specs.Distribute.{next_an, fresh_key, with_fresh, distribute_facts, distributed_of}
 use Rattle.participant.specs.First.{numbered}
-use Rattle.participant.proofs.Settle.{on-done, settle-cases}
-use Rattle.law_calls.specs.Settled.{distribute-settles, new-mi-settles, report-settles}
+use Rattle.participant.proofs.Settle.{settle-cases}
+use Rattle.law_calls.specs.Settled.{distribute-settles, new-mi-settles, report-settles, accepted-settled}
 use Rattle.law_calls.specs.Fields.{set_flags, Handed, Empty, TickLeaves, ReportLeaves, NewMiLeaves, DistributeLeaves, DistributeHands, AnBelow, FreshEmpty, CreateEmpty, NewMiEmpties, ReportSets}
 
 -- what a call leaves alone is left alone by what it becomes and by a refusal
 either : (leaves : Participant → Type 0) (p q : Participant) (fs : List (ℕ × Bool)) → numbered fs ≡ true → leaves p → leaves q → leaves (settle p fs q).participant
-either leaves p q fs k before after = settle-cases p q fs k (λ e h. rw e after) (λ n e h. rw e before)
+either leaves p q fs k before after = settle-cases p (done_of q) fs k (λ e h. rw e after) (λ n e h. rw e before)
 
 pub tick-leaves : TickLeaves
 unfolding ticked aged_to
@@ -50,9 +50,7 @@ handed-fresh p time w = record { kn = refl; mark = refl; distributed = refl; wra
 
 pub distribute-hands : DistributeHands
 distribute-hands p time w d =
-    let e = distribute-settles p time w in
-    let s = on-done p (with_fresh (aged_to p time) (first24 w)) (distribute_facts p time w) refl (ap (λ (r : Called). r.answer) (sym e) ∙ d) in
-    rw (e ∙ s.0) (handed-fresh p time w)
+    rw (accepted-settled p (with_fresh (aged_to p time) (first24 w)) (distribute_facts p time w) _ (distribute-settles p time w) refl d).0 (handed-fresh p time w)
 
 pub an-below : AnBelow
 unfolding next_an
@@ -71,12 +69,10 @@ create-empty time mi sci priority capability desired ckn =
 pub new-mi-empties : NewMiEmpties
 unfolding renewed
 new-mi-empties p time m d =
-    let e = new-mi-settles p time m in
-    let s = on-done p (renewed p time m) (new_mi_facts p time m) refl (ap (λ (r : Called). r.answer) (sym e) ∙ d) in
-    rw (e ∙ s.0) (record { mn = refl; kn = refl; mark = refl; sent = refl; distributed = refl; wrapped = refl; table = refl }, refl)
+    rw (accepted-settled p (renewed p time m) (new_mi_facts p time m) _ (new-mi-settles p time m) refl d).0
+    (record { mn = refl; kn = refl; mark = refl; sent = refl; distributed = refl; wrapped = refl; table = refl }, refl)
 
 pub report-sets : ReportSets
 report-sets p m kn transmit d =
-    let e = report-settles p m kn transmit in
-    let s = on-done p (set_latest (installed p.latest transmit) p) (report_facts p m kn transmit) refl (ap (λ (r : Called). r.answer) (sym e) ∙ d) in
-    (s.1.0, ap (λ (r : Called). r.participant.latest) (e ∙ s.0))
+    let s = accepted-settled p (set_latest (installed p.latest transmit) p) (report_facts p m kn transmit) _ (report-settles p m kn transmit) refl d in
+    (s.1.0, ap (λ (r : Called (Unit {0})). r.participant.latest) s.0)

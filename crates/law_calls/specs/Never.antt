@@ -1,9 +1,8 @@
 -- What can't happen: MN and KN never wrap, and a sender that is ours is never entered. Proved in NeverArgument.
-use Rattle.std.specs.Prelude.{ℕ, ◌+◌, ◌^◌, ◌<◌, ◌≡◌, Bool, false, List}
+use Rattle.std.specs.Prelude.{ℕ, ◌+◌, ◌^◌, ◌<◌, ◌≡◌, Bool, false, List, Ok}
 use Rattle.base_facts.specs.Facts.{first_of}
 use Rattle.base_mi.specs.Mi.{mi_same}
 use Rattle.participant.specs.declared.Participant.{Participant}
-use Rattle.participant.specs.declared.call.Answer.TheVariants.{Done}
 use Rattle.call_distribute.specs.Distribute.{distributed_of}
 use Rattle.call_judge.specs.Judge.{basic_in}
 use Rattle.call_receive.specs.Receive.{receive_facts}
@@ -19,4 +18,4 @@ MnFits = (p : Participant) (time latest_pn old_pn room : ℕ) → p.mn < 2 ^ 32 
 
 -- and so is a key number
 abbrev pub KnFits : Type 0
-KnFits = (p : Participant) (time : ℕ) (w : List ℕ) → p.kn < 2 ^ 32 → (distributed_of p time w).answer ≡ Done → p.kn + 1 < 2 ^ 32
+KnFits = (p : Participant) (time : ℕ) (w : List ℕ) → p.kn < 2 ^ 32 → (distributed_of p time w).answer ≡ Ok tt → p.kn + 1 < 2 ^ 32

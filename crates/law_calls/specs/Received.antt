@@ -3,10 +3,11 @@
 use Rattle.std.specs.Prelude.{ℕ, ◌≡◌, Bool, List}
 use Rattle.base_facts.specs.Facts.{first_of}
 use Rattle.participant.specs.declared.Participant.{Participant}
+use Rattle.participant.specs.Call.{refused_of}
 use Rattle.participant.specs.First.{First, NoneHolds}
 use Rattle.call_judge.specs.Judge.{basic_in, walk_in, places_in}
 use Rattle.call_receive.specs.Receive.{receive_facts, received_of}
-use Rattle.call_accept.specs.Accept.{refused_of, accepted_of, accepted_by}
+use Rattle.call_accept.specs.Accept.{accepted_of, accepted_by}
 
 -- the number of the first fact that holds, 0 if none does
 abbrev pub number : Participant → ℕ → Bool → List ℕ → ℕ

@@ -1,5 +1,5 @@
 -- Why: by the definition of receiving; nothing that a frame makes of the keys touches the clock.
-use Rattle.std.specs.Prelude.{ℕ, ◌≡◌, refl, Bool, true, false, cond, not, List, eqb}
+use Rattle.std.specs.Prelude.{ℕ, ◌≡◌, refl, Bool, true, false, cond, not, List, eqb, Option, Some, None}
 use Rattle.std.proofs.Common.{ap, ◌∙◌, eq-eqb, ne_eqb}
 use Rattle.base_mi.specs.declared.Mi.{Mi}
 use Rattle.frame.specs.declared.Basic.{Basic}
@@ -15,7 +15,8 @@ use Rattle.call_hearing.specs.Keys.{is_server, is_known, keyed_of}
 use Rattle.call_receive.specs.Receive.{table_facts, receive_facts, received_of}
 use Rattle.call_accept.specs.Accept.{admitted, updated_by, accepted_by}
 use Rattle.call_hearing.specs.Keys.{Keyed}
-use Rattle.call_accept.specs.declared.Received.{Received}
+use Rattle.call_hearing.specs.declared.keys.Wrapped.{Wrapped}
+use Rattle.participant.specs.declared.call.Called.{Called}
 use Rattle.law_calls.specs.Received.{number, RefusedExactly, AcceptedExactly, RefusedFirst, ReceivedClock, AcceptedNone}
 
 pub refused-exactly : RefusedExactly
@@ -34,13 +35,13 @@ cond-clock true x y c h k = h
 cond-clock false x y c h k = k
 
 -- a Distributed SAK leaves the clock
-keyed-clock : (p : Participant) (s : List ℕ) (m : Mi) (sak : Spot) → (keyed_of p s m sak).participant.clock ≡ p.clock
+keyed-clock : (p : Participant) (s : List ℕ) (m : Mi) (sak : Option Spot) → (keyed_of p s m sak).participant.clock ≡ p.clock
 unfolding keyed_of with_key without_keys
-keyed-clock p s m sak =
-    cond-clock (not sak.present) _ _ p.clock refl
-    (cond-clock (not (is_server p m)) _ _ p.clock refl
+keyed-clock p s m None = refl
+keyed-clock p s m (Some sak) =
+    cond-clock (not (is_server p m)) _ _ p.clock refl
     (cond-clock (eqb sak.len 0) _ _ p.clock refl
-    (cond-clock (is_known p m (sak_in s sak.place sak.len).kn) _ _ p.clock refl refl)))
+    (cond-clock (is_known p m (sak_in s sak.place sak.len).kn) _ _ p.clock refl refl))
 
 accepted-clock : (p : Participant) (time : ℕ) (s : List ℕ) (b : Basic) (w : Places) → (accepted_by p time s b w).participant.clock ≡ time
 unfolding accepted_by updated_by admitted aged_to
@@ -48,7 +49,7 @@ accepted-clock p time s b w = keyed-clock _ s b.mi w.sak
 
 pub received-clock : ReceivedClock
 received-clock p time verdict s e =
-    ap (λ (r : Received). r.participant.clock) (accepted-exactly p time verdict s e) ∙ accepted-clock p time s (basic_in s) (places_in (walk_in s))
+    ap (λ (r : Called Wrapped). r.participant.clock) (accepted-exactly p time verdict s e) ∙ accepted-clock p time s (basic_in s) (places_in (walk_in s))
 
 pub accepted-none : AcceptedNone
 unfolding receive_facts frame_facts table_facts

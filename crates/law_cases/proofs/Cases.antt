@@ -1,5 +1,5 @@
 -- Each case of the bench comes out as it says.
-use Rattle.std.specs.Prelude.{ℕ, refl, true, false, List, [], ◌∷◌, ◌++◌, replicate, set}
+use Rattle.std.specs.Prelude.{refl, ◌++◌}
 use Rattle.base_octets.specs.Number.{be_at, be_of}
 use Rattle.base_octets.specs.Run.{written}
 use Rattle.base_mi.specs.Mi.{mi_at, mi_octets}
@@ -17,14 +17,12 @@ use Rattle.table_enter.specs.Enter.{updated, replaced, entered_at}
 use Rattle.table.specs.Table.{empty_table, pushed}
 use Rattle.table_counts.specs.Counts.{live_count, live_list, potential_list}
 use Rattle.table_election.specs.Elect.{elected}
-use Rattle.table_election.specs.declared.Server.TheVariants.{Nobody, Ourselves, Elected}
 use Rattle.frame_writer.specs.Frame.{header_octets, fixed_octets, ckn_octets, basic_octets, list_set, list_octets, body_octets, frame_of}
 use Rattle.call_standing.specs.Standing.{server_of, elected_self}
 use Rattle.participant.specs.Call.{aged_to}
 use Rattle.call_tick.specs.Tick.{ticked}
 use Rattle.call_creation.specs.Create.{fresh, empty_participant, created_of}
 use Rattle.participant.specs.Keys.{no_slot, of_member}
-use Rattle.participant.specs.declared.Participant.{Participant}
 use Rattle.call_judge.specs.Judge.{frame_facts}
 use Rattle.call_hearing.specs.Keys.{keyed_of}
 use Rattle.call_hearing.specs.Proof.{is_recent, named_in, proves_in}
@@ -36,13 +34,11 @@ use Rattle.image_layout.specs.Layout.{contents_head, contents_entry, contents_en
 use Rattle.image_own.specs.Own.{named_octets, times_octets, kept_octets, own_octets}
 use Rattle.image_peer.specs.Peer.{peers_octets}
 use Rattle.image.specs.Image.{own_part, peers_part, keys_part, image_of}
-use Rattle.law_history.specs.Calls.{Call, created, to_call, receives, sends, ticks, after}
-use Rattle.law_cases.specs.Row.{Row, row, Right, both, Outcome, accepted, refused, octets, number, yes-no, elects, ended, basic_ended}
-use Rattle.law_cases.specs.Image.{image_cases}
+use Rattle.law_history.specs.Calls.{created}
+use Rattle.law_cases.specs.Row.{Right, both}
 use Rattle.law_cases.specs.Shown.{shown_cases, shown_cases-right}
 use Rattle.law_cases.specs.Echoes.{cases3, cases3-right}
 use Rattle.law_cases.specs.Crowd.{cases8, cases8-right}
-use Rattle.law_cases.specs.Setting.{twelve, of_priority, case1, first, frame, naming, sendings, comes, live, potential}
 use Rattle.law_cases.specs.Cases.{others, bench}
 
 others-right : Right others

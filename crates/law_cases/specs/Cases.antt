@@ -1,47 +1,17 @@
 -- "Bench cases": the starred ones as one table, and the one theorem over it. Rows that take more computing stand in files of their own.
-use Rattle.std.specs.Prelude.{ℕ, refl, true, false, List, [], ◌∷◌, ◌++◌, replicate, set}
-use Rattle.base_octets.specs.Number.{be_at, be_of}
-use Rattle.base_octets.specs.Run.{written}
-use Rattle.base_mi.specs.Mi.{mi_at, mi_octets}
-use Rattle.base_mi.specs.Entry.{entry_at}
-use Rattle.frame.specs.Basic.{basic_fields, basic_of}
-use Rattle.frame.specs.Ours.{same_at, fact6}
-use Rattle.frame_places.specs.Once.{holds, places_with}
-use Rattle.frame_sets.specs.Set.{len_at, bad_head, bad_set}
-use Rattle.frame_rules.specs.Rules.{list_len, bad_body, bad_shape, extent_of}
-use Rattle.frame_walk.specs.List.{entries_from, list_at, entries_in}
-use Rattle.frame_walk.specs.Walk.{walk_go, walk_from, walk_of}
-use Rattle.table_expiry.specs.Expiry.{expired}
-use Rattle.table_lookup.specs.Look.{held_in}
-use Rattle.table_enter.specs.Enter.{updated, replaced, entered_at}
-use Rattle.table.specs.Table.{empty_table, pushed}
-use Rattle.table_counts.specs.Counts.{live_count, live_list, potential_list}
-use Rattle.table_election.specs.Elect.{elected}
+use Rattle.std.specs.Prelude.{ℕ, true, false, List, [], ◌∷◌, ◌++◌, replicate, set}
+use Rattle.frame.specs.Basic.{basic_of}
+use Rattle.table_counts.specs.Counts.{live_count}
 use Rattle.table_election.specs.declared.Server.TheVariants.{Nobody, Ourselves, Elected}
-use Rattle.frame_writer.specs.Frame.{header_octets, fixed_octets, ckn_octets, basic_octets, list_set, list_octets, body_octets, frame_of}
-use Rattle.call_standing.specs.Standing.{server_of, elected_self}
-use Rattle.participant.specs.Call.{aged_to}
-use Rattle.call_tick.specs.Tick.{ticked}
-use Rattle.call_creation.specs.Create.{fresh, empty_participant, created_of}
-use Rattle.participant.specs.Keys.{no_slot, of_member}
+use Rattle.call_standing.specs.Standing.{server_of}
 use Rattle.participant.specs.declared.Participant.{Participant}
-use Rattle.call_judge.specs.Judge.{frame_facts}
-use Rattle.call_hearing.specs.Keys.{keyed_of}
-use Rattle.call_hearing.specs.Proof.{is_recent, named_in, proves_in}
-use Rattle.call_receive.specs.Receive.{table_facts, receive_facts, received_of}
-use Rattle.call_accept.specs.Accept.{heard_of, admitted, updated_by, accepted_by}
-use Rattle.call_send.specs.Message.{key_use_of, server_flag, hands_out, sender_of, sak_of, message_of}
-use Rattle.call_send.specs.Send.{frame_at, send_facts, sent_at, sent_of, left_by}
-use Rattle.image_layout.specs.Layout.{contents_head, contents_entry, contents_entries, bodies, laid_of}
-use Rattle.image_own.specs.Own.{named_octets, times_octets, kept_octets, own_octets}
-use Rattle.image_peer.specs.Peer.{peers_octets}
-use Rattle.image.specs.Image.{own_part, peers_part, keys_part, image_of}
+use Rattle.call_send.specs.Send.{left_by}
 use Rattle.law_history.specs.Calls.{Call, created, to_call, receives, sends, ticks, after}
-use Rattle.law_cases.specs.Row.{Row, row, Right, both, Outcome, accepted, refused, octets, number, yes-no, elects, ended, basic_ended}
+use Rattle.law_cases.specs.Row.{Row, row, Outcome, accepted, refused, octets, number, yes-no, elects, ended, basic_ended}
 use Rattle.law_cases.specs.Image.{image_cases}
-use Rattle.law_cases.specs.Shown.{shown_cases, shown_cases-right}
-use Rattle.law_cases.specs.Echoes.{cases3, cases3-right}
-use Rattle.law_cases.specs.Crowd.{cases8, cases8-right}
+use Rattle.law_cases.specs.Shown.{shown_cases}
+use Rattle.law_cases.specs.Echoes.{cases3}
+use Rattle.law_cases.specs.Crowd.{cases8}
 use Rattle.law_cases.specs.Setting.{twelve, of_priority, case1, first, frame, naming, sendings, comes, live, potential}
 
 -- "MI 11 twelve times, SCI 02-00-00-00-00-01-00-01, .." is accepted, and its image begins as it says.

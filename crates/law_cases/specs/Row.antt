@@ -1,14 +1,11 @@
 -- A row of the table of bench cases: the case's number, what SCOPE says comes out, and what the definitions give.
-use Rattle.std.specs.Prelude.{ℕ, Bool, ◌≡◌, refl, List, [], ◌∷◌, ◌++◌, map}
+use Rattle.std.specs.Prelude.{ℕ, Bool, ◌≡◌, refl, List, [], ◌∷◌, ◌++◌, map, Result, Ok, Err}
 use Rattle.std.proofs.Common.{sym, ◌∙◌, ap₂}
 use Rattle.std.proofs.lemmas.List.{map-append}
-use Rattle.frame.specs.declared.BasicRead.{BasicRead}
-use Rattle.frame.specs.declared.BasicRead.TheVariants as on_basic
+use Rattle.base_facts.specs.declared.Refusal.{Refusal}
+use Rattle.base_facts.specs.Refusal.{number_of}
+use Rattle.frame.specs.declared.Basic.{Basic}
 use Rattle.table_election.specs.declared.Server.{Server}
-use Rattle.participant.specs.declared.call.Answer.TheVariants as on_call
-use Rattle.call_accept.specs.declared.Answer.TheVariants as on_receive
-use Rattle.call_send.specs.declared.Answer.TheVariants as on_send
-use Rattle.frame_writer.specs.declared.Wrote.TheVariants as on_write
 use Rattle.law_history.specs.Calls.{Answer, to_receive, to_send, to_call, to_ask, to_save}
 
 -- What comes out.
@@ -44,19 +41,19 @@ pub each : (rs : List Row) → Each rs → Right rs
 each [] h = refl
 each (r ∷ rs) h = ap₂ ◌∷◌ h.0 (each rs h.1)
 
+-- How what answers comes out: what it gives, or the number of its refusal.
+abbrev pub outcome : {A : Type 0} → (A → Outcome) → Result A Refusal → Outcome
+outcome gives (Ok x) = gives x
+outcome gives (Err why) = refused (number_of why)
+
 -- How a call comes out.
 abbrev pub ended : Answer → Outcome
-ended (to_receive (on_receive.Accepted place len)) = accepted
-ended (to_receive (on_receive.Refused n)) = refused n
-ended (to_send (on_send.Octets n) out) = number n
-ended (to_send (on_send.Refused n) out) = refused n
-ended (to_call on_call.Done) = accepted
-ended (to_call (on_call.Refused n)) = refused n
+ended (to_receive a) = outcome (λ _. accepted) a
+ended (to_send a out) = outcome number a
+ended (to_call a) = outcome (λ _. accepted) a
 ended (to_ask p) = accepted
-ended (to_save (on_write.Octets n) out) = number n
-ended (to_save (on_write.Refused n) out) = refused n
+ended (to_save a out) = outcome number a
 
 -- How the reading of a Basic set comes out.
-abbrev pub basic_ended : BasicRead → Outcome
-basic_ended (on_basic.Read b) = accepted
-basic_ended (on_basic.Refused n) = refused n
+abbrev pub basic_ended : Result Basic Refusal → Outcome
+basic_ended = outcome (λ _. accepted)

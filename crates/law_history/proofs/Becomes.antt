@@ -1,6 +1,8 @@
 -- What an accepted call makes of each part of the participant.
 use Rattle.std.specs.Prelude.{ℕ, ◌+◌, ◌≤◌, ◌≡◌, refl, Bool, true, false, List, eqb}
 use Rattle.std.proofs.Math.Path.{ap}
+use Rattle.std.specs.Prelude.{Some, None}
+use Rattle.std.specs.Prelude as prelude
 use Rattle.std.proofs.Math.Option.{Option, none, some}
 use Rattle.std.proofs.Common.{arith, ltb-false}
 use Rattle.base_mi.specs.declared.Mi.{Mi}
@@ -27,32 +29,31 @@ use Rattle.law_history.specs.Steps.{facts, becomes}
 
 -- ---- a Distributed SAK: ignored, both keys dropped, or a key entered
 
-module _ (q : Participant) (s : List ℕ) (m : Mi) (sak : Spot) where
-  pub by-keyed {ℓ} : {C : Type ℓ}
+module _ (q : Participant) (s : List ℕ) (m : Mi) where
+  pub by-keyed {ℓ} : {C : Type ℓ} (sak : prelude.Option Spot)
       → ((keyed_of q s m sak).participant ≡ q → C)
       → ((keyed_of q s m sak).participant ≡ without_keys q → C)
-      → (sak.present ≡ true → is_server q m ≡ true → eqb sak.len 0 ≡ false → (keyed_of q s m sak).participant ≡ with_key q (key_from m (sak_in s sak.place sak.len)) → C)
+      → ((spot : Spot) → sak ≡ Some spot → is_server q m ≡ true → eqb spot.len 0 ≡ false → (keyed_of q s m sak).participant ≡ with_key q (key_from m (sak_in s spot.place spot.len)) → C)
       → C
   unfolding keyed_of
-  by-keyed same dropped entered =
-      by_cases sak.present
-      (λ a. by_cases (is_server q m)
-      (λ b. by_cases (eqb sak.len 0)
-      (λ d. dropped (rw (a, b, d)))
-      (λ d. by_cases (is_known q m (sak_in s sak.place sak.len).kn)
-      (λ e. same (rw (a, b, d, e)))
-      (λ e. entered a b d (rw (a, b, d, e)))))
-      (λ b. same (rw (a, b))))
-      (λ a. same (rw a))
+  by-keyed None same dropped entered = same refl
+  by-keyed (Some spot) same dropped entered =
+      by_cases (is_server q m)
+      (λ b. by_cases (eqb spot.len 0)
+      (λ d. dropped (rw (b, d)))
+      (λ d. by_cases (is_known q m (sak_in s spot.place spot.len).kn)
+      (λ e. same (rw (b, d, e)))
+      (λ e. entered spot refl b d (rw (b, d, e)))))
+      (λ b. same (rw b))
 
   -- nothing but the keys
-  pub keyed-leaves : let x = (keyed_of q s m sak).participant in x ≡ set_latest x.latest (set_old x.old q)
+  pub keyed-leaves : (sak : prelude.Option Spot) → let x = (keyed_of q s m sak).participant in x ≡ set_latest x.latest (set_old x.old q)
   unfolding with_key without_keys
-  keyed-leaves =
-      by-keyed
+  keyed-leaves sak =
+      by-keyed sak
       (λ e. rw e)
       (λ e. rw e)
-      (λ a b d e. rw e)
+      (λ spot a b d e. rw e)
 
 -- the sender entered or updated
 abbrev pub updated_in : Participant → ℕ → List ℕ → Participant

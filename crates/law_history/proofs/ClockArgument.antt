@@ -1,12 +1,11 @@
 -- Why the clock is the latest time: an accepted call's time is the clock after it, and no call sets it back.
-use Rattle.std.specs.Prelude.{ℕ, ◌≤◌, ◌≡◌, refl, true, List, [], ◌∷◌, ◌++◌, ◌⊎◌}
+use Rattle.std.specs.Prelude.{ℕ, ◌≤◌, ◌≡◌, refl, true, List, [], ◌∷◌, ◌++◌, ◌⊎◌, Ok}
 use Rattle.std.proofs.Math.Path.{ap}
 use Rattle.std.proofs.Common.{◌∙◌, inl, inr, arith}
 use Rattle.std.proofs.Math.Option.{Option, none, some}
 use Rattle.law_lists.proofs.Laws.{by_cases}
 use Rattle.call_creation.specs.Create.{fresh}
 use Rattle.participant.specs.declared.Participant.{Participant}
-use Rattle.participant.specs.declared.call.Answer.TheVariants.{Done}
 use Rattle.law_history.specs.Calls.{Creation, created, Call, answered, played, after, accepts, accepted, time_of}
 use Rattle.law_history.specs.Steps.{accepted-becomes, accepted-none, refused-leaves}
 use Rattle.law_history.proofs.Becomes.{time_or, effect, not-before}
@@ -35,7 +34,7 @@ onward k later earlier =
 pub clock-set : (k : Creation) (cs : List Call) (c : Call) → accepted k cs c ≡ true → (after k (c ∷ cs)).clock ≡ time_or (time_of c) (after k cs).clock
 clock-set k cs c e = ap (λ (q : Participant). q.clock) (after-accepted k cs c e) ∙ (effect (after k cs) c).clock
 
-module _ (k : Creation) (ok : (created k).answer ≡ Done) where
+module _ (k : Creation) (ok : (created k).answer ≡ Ok tt) where
   starts : (after k []).clock ≡ k.time
   unfolding fresh
   starts = ap (λ (q : Participant). q.clock) (start k ok)

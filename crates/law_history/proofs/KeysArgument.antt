@@ -1,5 +1,5 @@
 -- Why: a key is entered by one of two calls, each with what it hands out; later calls keep it, drop it or set its flags.
-use Rattle.std.specs.Prelude.{ℕ, ◌+◌, ◌≡◌, refl, Bool, false, ◌&&◌, eqb}
+use Rattle.std.specs.Prelude.{ℕ, ◌+◌, ◌≡◌, refl, Bool, false, ◌&&◌, eqb, Ok, Some}
 use Rattle.std.proofs.Math.Path.{ap}
 use Rattle.std.proofs.Common.{◌∙◌}
 use Rattle.std.proofs.Math.Bool.{true}
@@ -26,7 +26,6 @@ use Rattle.participant.specs.Keys.{no_slot, with_key, without_keys}
 use Rattle.participant.specs.declared.Key.{Key}
 use Rattle.participant.specs.declared.Slot.{Slot}
 use Rattle.participant.specs.declared.Participant.{Participant}
-use Rattle.participant.specs.declared.call.Answer.TheVariants.{Done}
 use Rattle.law_calls.specs.Passed.{distribute-passed}
 use Rattle.call_judge.specs.Judge.{basic_in}
 use Rattle.call_hearing.specs.Keys.{is_peer, is_server, key_from}
@@ -37,6 +36,7 @@ use Rattle.law_history.specs.Steps.{becomes, accepted-none}
 use Rattle.law_history.proofs.Becomes.{updated_in, by-keyed}
 use Rattle.law_history.proofs.Splits.{start, own, distributed, capable, made-now, made-before, after-accepted, after-refused}
 use Rattle.law_history.proofs.TableArgument.{keeps}
+use Rattle.frame_places.specs.declared.Spot.{Spot}
 use Rattle.law_history.specs.Keys.{CameFrom, sak_spot, sak_read, LatestHandedOut, OldHandedOut}
 
 -- ---- what a history has said stays said; reports change only the flags
@@ -73,6 +73,7 @@ later-handed k cs c a b s (inr t) =
       made = made-before k cs c (receives t.time t.verdict t.frame) t.made;
       live = rw s.mi t.live;
       elected = rw s.mi t.elected;
+      spot = t.spot;
       present = t.present;
       filled = t.filled;
       mi = s.mi ∙ t.mi;
@@ -118,7 +119,7 @@ server-live : (p : Participant) (m : Mi) → Kept p.mi p.clock p.table → serve
 unfolding server_of
 server-live p m k e = elected-live (own_rank p) p.table m (kept-rules k).apart e
 
-module _ (k : Creation) (ok : (created k).answer ≡ Done) where
+module _ (k : Creation) (ok : (created k).answer ≡ Ok tt) where
   ours-now : (cs : List Call) (time : ℕ) (w : List ℕ) → accepted k cs (distributes time w) ≡ true → CameFrom k (distributes time w ∷ cs) (fresh_key (aged_to (after k cs) time))
   unfolding fresh_key fresh_due aged_to
   ours-now cs time w e =
@@ -140,14 +141,14 @@ module _ (k : Creation) (ok : (created k).answer ≡ Done) where
       })
 
   theirs-now : (cs : List Call) (time : ℕ) (verdict : Bool) (frame : List ℕ) → accepted k cs (receives time verdict frame) ≡ true
-      → (sak_spot frame).present ≡ true → is_server (updated_in (after k cs) time frame) (basic_in frame).mi ≡ true → eqb (sak_spot frame).len 0 ≡ false
-      → becomes (after k cs) (receives time verdict frame) ≡ with_key (updated_in (after k cs) time frame) (key_from (basic_in frame).mi (sak_read frame))
-      → CameFrom k (receives time verdict frame ∷ cs) (key_from (basic_in frame).mi (sak_read frame))
+      → (spot : Spot) → sak_spot frame ≡ Some spot → is_server (updated_in (after k cs) time frame) (basic_in frame).mi ≡ true → eqb spot.len 0 ≡ false
+      → becomes (after k cs) (receives time verdict frame) ≡ with_key (updated_in (after k cs) time frame) (key_from (basic_in frame).mi (sak_read frame spot))
+      → CameFrom k (receives time verdict frame ∷ cs) (key_from (basic_in frame).mi (sak_read frame spot))
   unfolding is_server key_from
-  theirs-now cs time verdict frame e a b d x =
+  theirs-now cs time verdict frame e spot a b d x =
       let c = receives time verdict frame in
       let q = updated_in (after k cs) time frame in
-      let key = key_from (basic_in frame).mi (sak_read frame) in
+      let key = key_from (basic_in frame).mi (sak_read frame spot) in
       let el : server_of (after k (c ∷ cs)) ≡ Elected (basic_in frame).mi =
       ap server_of (after-accepted k cs c e ∙ x) ∙ keyed-server q key ∙ server-is (server_of q) (basic_in frame).mi b in
       inr (record {
@@ -157,8 +158,9 @@ module _ (k : Creation) (ok : (created k).answer ≡ Done) where
         made = made-now k cs c e;
         live = server-live (after k (c ∷ cs)) (basic_in frame).mi (keeps k (c ∷ cs)) el;
         elected = el;
+        spot = spot;
         present = a;
-        filled = eqb-false (sak_spot frame).len 0 d;
+        filled = eqb-false spot.len 0 d;
         mi = refl;
         kn = refl;
         an = refl;
@@ -181,7 +183,7 @@ module _ (k : Creation) (ok : (created k).answer ≡ Done) where
       by-keyed q frame (basic_in frame).mi (sak_spot frame)
       (λ x. rw x (later-known k cs c p.latest h.0, later-known k cs c p.old h.1))
       (λ x. rw x (none-known k (c ∷ cs), none-known k (c ∷ cs)))
-      (λ a b d x. rw x ((λ t. theirs-now cs time verdict frame e a b d x), later-known k cs c p.latest h.0))
+      (λ spot a b d x. rw x ((λ t. theirs-now cs time verdict frame e spot a b d x), later-known k cs c p.latest h.0))
 
   becomes-known : (cs : List Call) (c : Call) → accepted k cs c ≡ true → BothKnown cs (after k cs) → BothKnown (c ∷ cs) (becomes (after k cs) c)
   unfolding sent_at aged_to with_fresh with_key renewed

@@ -1,15 +1,14 @@
 -- Why: the last proof by the table is a proof by the history, and a proof by the history is no later than the last.
-use Rattle.std.specs.Prelude.{ℕ, ◌-◌, ◌≤◌, ◌≡◌, refl, Bool, true, false, List, [], ◌∷◌, ◌++◌}
+use Rattle.std.specs.Prelude.{ℕ, ◌-◌, ◌≤◌, ◌≡◌, refl, Bool, true, false, List, [], ◌∷◌, ◌++◌, Ok}
 use Rattle.std.proofs.Common.{ap, sym, subst, ◌∙◌, arith, ltb-true, lt-ltb}
 use mathlib.Core.List.Memᴰ
-use Rattle.std.proofs.Math.Option.{Option, none, some}
+use Rattle.std.specs.Prelude.{Option, None, Some}
 use Rattle.base_mi.specs.Mi.{mi_same}
 use Rattle.base_mi.specs.declared.Mi.{Mi}
 use Rattle.table_expiry.specs.Expiry.{life_time, fresh_at}
 use Rattle.law_kept.specs.Proved.{aged_proof, is_some}
 use Rattle.law_lists.proofs.Laws.{by_cases, never, clash, both, first-of, second-of}
 use Rattle.law_kept.specs.Same.{same-eq, same_refl}
-use Rattle.participant.specs.declared.call.Answer.TheVariants.{Done}
 use Rattle.call_judge.specs.Judge.{basic_in}
 use Rattle.call_hearing.specs.Proof.{window}
 use Rattle.law_history.specs.Calls.{Creation, created, Call, receives, sends, distributes, ticks, renews, reports, asks, saves, after, accepted, identifier, NoneTaken}
@@ -25,10 +24,10 @@ use Rattle.law_history.proofs.Naming.{proves-has, has-proves}
 -- the last proof, at that time or later
 record Since (x : Option ℕ) (time : ℕ) : Type 0 where
   at : ℕ
-  last : x ≡ some at
+  last : x ≡ Some at
   late : time ≤ at
 
-module _ (k : Creation) (ok : (created k).answer ≡ Done) (m : Mi) where
+module _ (k : Creation) (ok : (created k).answer ≡ Ok tt) (m : Mi) where
   -- ---- the last proof is a proof
 
   extended : (cs : List Call) (c : Call) (at : ℕ) → ((time : ℕ) (x : Mi) → c ≡ renews time x → accepted k cs c ≡ false) → Proof window k cs m at → Proof window k (c ∷ cs) m at
@@ -65,8 +64,8 @@ module _ (k : Creation) (ok : (created k).answer ≡ Done) (m : Mi) where
       }
 
   -- an accepted call either leaves the last proof or is it
-  found-by : (cs : List Call) (c : Call) (at : ℕ) → accepted k cs c ≡ true → proof_by (after k cs) m c (last_proof k m cs) ≡ some at
-      → (last_proof k m cs ≡ some at → Proof window k cs m at) → Proof window k (c ∷ cs) m at
+  found-by : (cs : List Call) (c : Call) (at : ℕ) → accepted k cs c ≡ true → proof_by (after k cs) m c (last_proof k m cs) ≡ Some at
+      → (last_proof k m cs ≡ Some at → Proof window k cs m at) → Proof window k (c ∷ cs) m at
   found-by cs (receives time verdict frame) at e p before =
       by_cases (proves_of (after k cs) m frame)
       (λ b. let t : time ≡ at = cc (rw b at p) in subst (λ (n : ℕ). Proof window k (receives time verdict frame ∷ cs) m n) t (proof-now cs time verdict frame e b))
@@ -79,7 +78,7 @@ module _ (k : Creation) (ok : (created k).answer ≡ Done) (m : Mi) where
   found-by cs asks at e p before = extended cs asks at (λ time x s. never (cc)) (before p)
   found-by cs (saves out) at e p before = extended cs (saves out) at (λ time x s. never (cc)) (before p)
 
-  found : (cs : List Call) (at : ℕ) → last_proof k m cs ≡ some at → Proof window k cs m at
+  found : (cs : List Call) (at : ℕ) → last_proof k m cs ≡ Some at → Proof window k cs m at
   found [] at p = never (cc)
   found (c ∷ cs) at p =
       by_cases (accepted k cs c)
@@ -122,8 +121,8 @@ module _ (k : Creation) (ok : (created k).answer ≡ Done) (m : Mi) where
   live-has-proof cs e = go (last_proof k m cs) refl (sym (live-is k m cs) ∙ e)
     where
       go : (x : Option ℕ) → last_proof k m cs ≡ x → is_some (aged_proof (after k cs).clock (last_proof k m cs)) ≡ true → ProvedLately life_time window k cs m
-      go none p e = clash (rw p at e)
-      go (some at) p e =
+      go None p e = clash (rw p at e)
+      go (Some at) p e =
           by_cases (fresh_at (after k cs).clock at)
           (λ f. record { time = at; proof = found cs at p; lately = omega (arith, ltb-true ((after k cs).clock - at) life_time f) })
           (λ f. clash (rw (p, f) at e))

@@ -1,5 +1,5 @@
 -- A frame is a proof exactly where its lists have an entry with our identifier and a recent number.
-use Rattle.std.specs.Prelude.{ℕ, ◌≡◌, Bool, true, false, ◌&&◌, ◌||◌}
+use Rattle.std.specs.Prelude.{ℕ, ◌≡◌, Bool, true, false, ◌&&◌, ◌||◌, Option, Some, None}
 use Rattle.std.proofs.Math.Path.{refl}
 use Rattle.std.proofs.Common.{sym, ◌∙◌, ⊎_elim}
 use mathlib.Core.List.Memᴰ
@@ -7,14 +7,14 @@ use mathlib.Core.List.{List, [], ◌∷◌, Memᴰ}
 use Rattle.base_mi.specs.Mi.{mi_same}
 use Rattle.base_mi.specs.declared.Mi.{Mi}
 use Rattle.base_mi.specs.declared.entry.Entry.{Entry}
-use Rattle.frame_walk.specs.List.{entries_in}
+use Rattle.frame_places.specs.declared.Spot.{Spot}
 use Rattle.law_lists.proofs.Laws.{by_cases, clash, first-of, second-of}
 use Rattle.law_kept.specs.Same.{same-eq, same_refl}
 use Rattle.participant.specs.declared.Participant.{Participant}
 use Rattle.call_judge.specs.Judge.{walk_in, places_in}
 use Rattle.call_hearing.specs.Proof.{is_recent, any_recent, named_in, proves_in}
 use Rattle.law_history.proofs.Becomes.{proves}
-use Rattle.law_history.specs.Live.{listed}
+use Rattle.law_history.specs.Live.{entries_at, listed}
 
 -- an entry with our identifier and a number that is recent by the last one sent
 pub record Has (own : Mi) (last : ℕ) (es : List Entry) : Type 0 where
@@ -50,14 +50,19 @@ or-true false b e = e
 
 module _ (p : Participant) (frame : List ℕ) where
   abbrev live : List Entry
-  live = let w = places_in (walk_in frame) in entries_in frame w.live.place w.live.len
+  live = entries_at frame (places_in (walk_in frame)).live
 
   abbrev potential : List Entry
-  potential = let w = places_in (walk_in frame) in entries_in frame w.potential.place w.potential.len
+  potential = entries_at frame (places_in (walk_in frame)).potential
+
+  named-listed : (list : Option Spot) → named_in frame list p.mi p.mn ≡ any_recent p.mi p.mn (entries_at frame list)
+  unfolding named_in
+  named-listed None = refl
+  named-listed (Some list) = refl
 
   proves-lists : proves p frame ≡ any_recent p.mi p.mn live || any_recent p.mi p.mn potential
-  unfolding proves_in named_in
-  proves-lists = refl
+  unfolding proves_in
+  proves-lists = rw (named-listed (places_in (walk_in frame)).live, named-listed (places_in (walk_in frame)).potential)
 
   pub proves-has : proves p frame ≡ true → Has p.mi p.mn (listed frame)
   proves-has e =

@@ -2,7 +2,7 @@
 use Rattle.std.specs.Prelude.{ℕ, ◌≤◌, ◌≡◌, refl, Bool, ◌&&◌, List, []}
 use Rattle.std.proofs.Common.{ap, ◌∙◌}
 use Rattle.std.proofs.Math.Bool.{cond}
-use Rattle.std.proofs.Math.Option.{Option, none, some}
+use Rattle.std.specs.Prelude.{Option, None, Some}
 use Rattle.base_mi.specs.Mi.{mi_same}
 use Rattle.base_mi.specs.declared.Mi.{Mi}
 use Rattle.table_expiry.specs.Expiry.{expired}
@@ -38,23 +38,23 @@ proves_of p m frame = mi_same m (basic_in frame).mi && proves p frame
 
 -- what an accepted call makes of the time of m's last proof
 abbrev pub proof_by : Participant → Mi → Call → Option ℕ → Option ℕ
-proof_by p m (receives time verdict frame) x = cond (proves_of p m frame) (some time) x
+proof_by p m (receives time verdict frame) x = cond (proves_of p m frame) (Some time) x
 proof_by p m (sends time latest_pn old_pn out) x = x
 proof_by p m (distributes time wrapped) x = x
 proof_by p m (ticks time) x = x
-proof_by p m (renews time own) x = none
+proof_by p m (renews time own) x = None
 proof_by p m (reports mi kn transmit) x = x
 proof_by p m asks x = x
 proof_by p m (saves out) x = x
 
 abbrev pub last_proof : Creation → Mi → List Call → Option ℕ
-last_proof k m cs = folded k (λ p. proof_by p m) none cs
+last_proof k m cs = folded k (λ p. proof_by p m) None cs
 
 -- the table's proof of m, at the clock
 abbrev Holds : Participant → Mi → Option ℕ → Type 0
 Holds p m x = proved_at (held_in m p.table) ≡ aged_proof p.clock x
 
-empty-proved : (m : Mi) → proved_at (held_in m empty_table) ≡ none
+empty-proved : (m : Mi) → proved_at (held_in m empty_table) ≡ None
 unfolding held_in empty_table
 empty-proved m = refl
 
@@ -63,7 +63,7 @@ module _ (p : Participant) (m : Mi) (x : Option ℕ) (k : Keeps p) (e : Holds p 
   holds-aged time h = proved-expired m time p.table (kept-rules k).apart (kept-rules k).order ∙ ap (aged_proof time) e ∙ proof-later p.clock time x h
 
   holds-received : (time : ℕ) (verdict : Bool) (frame : List ℕ) → NoneHolds (facts p (receives time verdict frame))
-      → proved_at (held_in m (entered (heard_of (basic_in frame)) (proves p frame) time (expired time p.table))) ≡ aged_proof time (cond (proves_of p m frame) (some time) x)
+      → proved_at (held_in m (entered (heard_of (basic_in frame)) (proves p frame) time (expired time p.table))) ≡ aged_proof time (cond (proves_of p m frame) (Some time) x)
   unfolding aged_to heard_of
   holds-received time verdict frame h =
       let t = expired time p.table in
@@ -75,7 +75,7 @@ module _ (p : Participant) (m : Mi) (x : Option ℕ) (k : Keeps p) (e : Holds p 
       by_cases (mi_same m (basic_in frame).mi)
       (λ s.
       let mi = same-eq m (basic_in frame).mi s in
-      let at : proved_at (held_in m (entered heard (proves p frame) time t)) ≡ cond (proves p frame) (some time) (proved_at (held_in m t)) =
+      let at : proved_at (held_in m (entered heard (proves p frame) time t)) ≡ cond (proves p frame) (Some time) (proved_at (held_in m t)) =
       rw mi (proved-own heard (proves p frame) time t whole room) in
       at ∙ by_cases (proves p frame) (λ b. rw (s, b, fresh-now time)) (λ b. rw (s, b) aged))
       (λ s. proved-other heard (proves p frame) time t whole m s ∙ rw s aged)
@@ -93,13 +93,13 @@ holds-becomes p m x asks h k e = e
 holds-becomes p m x (saves out) h k e = e
 
 module _ (k : Creation) (m : Mi) where
-  holds-start : Holds (created k).participant m none
+  holds-start : Holds (created k).participant m None
   unfolding created
   holds-start = rw (create-empty k.time k.mi k.sci k.priority k.capability k.desired k.ckn).0.table (empty-proved m)
 
   holds : (cs : List Call) → Keeps (after k cs) × Holds (after k cs) m (last_proof k m cs)
   holds cs =
-      carry k (λ p. proof_by p m) none (λ p x. Keeps p × Holds p m x) (keeps k [], holds-start)
+      carry k (λ p. proof_by p m) None (λ p x. Keeps p × Holds p m x) (keeps k [], holds-start)
       (λ p c x e h. let none = accepted-none p c e in (keeps-becomes p c none h.0, holds-becomes p m x c none h.0 h.1)) cs
 
   -- Live exactly where the last proof is less than a life time old

@@ -1,12 +1,11 @@
 -- Histories taken apart and put together.
-use Rattle.std.specs.Prelude.{ℕ, ◌≡◌, refl, Bool, true, false, List, [], ◌∷◌, ◌++◌, length}
+use Rattle.std.specs.Prelude.{ℕ, ◌≡◌, refl, Bool, true, false, List, [], ◌∷◌, ◌++◌, length, Ok}
 use Rattle.std.proofs.Math.Path.{ap}
 use Rattle.std.proofs.Common.{sym, ◌∙◌}
 use Rattle.base_mi.specs.declared.Mi.{Mi}
 use Rattle.call_creation.specs.Create.{bad_start, fresh, empty_participant}
 use Rattle.participant.specs.declared.Participant.{Participant}
 use Rattle.participant.specs.declared.call.Called.{Called}
-use Rattle.participant.specs.declared.call.Answer.TheVariants.{Done}
 use Rattle.participant.proofs.Settle.{on-done}
 use Rattle.law_calls.specs.Settled.{create-settles}
 use Rattle.law_lists.proofs.Laws.{by_cases, never, clash}
@@ -15,13 +14,13 @@ use Rattle.law_history.specs.Steps.{becomes, refused-leaves, accepted-becomes}
 use Rattle.law_history.proofs.Becomes.{effect}
 
 -- what an accepted creation gives
-pub start : (k : Creation) → (created k).answer ≡ Done → (created k).participant ≡ fresh k.time k.mi k.sci k.priority k.capability k.desired k.ckn
+pub start : (k : Creation) → (created k).answer ≡ Ok tt → (created k).participant ≡ fresh k.time k.mi k.sci k.priority k.capability k.desired k.ckn
 unfolding created
 start k ok =
     let e = create-settles k.time k.mi k.sci k.priority k.capability k.desired k.ckn in
     let p = fresh k.time k.mi k.sci k.priority k.capability k.desired k.ckn in
-    let s = on-done empty_participant p ((15, bad_start (length k.ckn) k.capability) ∷ []) refl (ap (λ (r : Called). r.answer) (sym e) ∙ ok) in
-    ap (λ (r : Called). r.participant) (e ∙ s.0)
+    let s = on-done empty_participant p ((15, bad_start (length k.ckn) k.capability) ∷ []) refl (ap (λ (r : Called (Unit {0})). r.answer) (sym e) ∙ ok) in
+    ap (λ (r : Called (Unit {0})). r.participant) (e ∙ s.0)
 
 -- the calls after others go on from what those made
 pub from-append : (p : Participant) (ds cs : List Call) → played p (ds ++ cs) ≡ played (played p cs) ds
@@ -70,7 +69,7 @@ pub always {κ} : (k : Creation) (P : Participant → Type κ) → P (after k []
 always k P first next cs = carry {A = ℕ} k (λ p c n. n) 0 (λ p n. P p) first (λ p c n e h. next p c e h) cs
 
 -- our identifier, the number of keys distributed and our capability are those that the participant has
-module _ (k : Creation) (ok : (created k).answer ≡ Done) where
+module _ (k : Creation) (ok : (created k).answer ≡ Ok tt) where
   pub own : (cs : List Call) → (after k cs).mi ≡ identifier k cs
   unfolding fresh
   own cs =

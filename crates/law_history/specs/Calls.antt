@@ -1,6 +1,8 @@
 -- A history: a creation, then calls of any kind in any order; what each answers, and what the participant is after them.
-use Rattle.std.specs.Prelude.{ℕ, ◌+◌, ◌≡◌, Bool, true, false, cond, List, [], ◌∷◌, ◌++◌, length}
+use Rattle.std.specs.Prelude.{ℕ, ◌+◌, ◌≡◌, Bool, true, false, cond, List, [], ◌∷◌, ◌++◌, length, Result}
+use Rattle.std.specs.Result.{is_ok}
 use Rattle.std.proofs.Math.Option.{Option, none, some}
+use Rattle.base_facts.specs.declared.Refusal.{Refusal}
 use Rattle.base_mi.specs.declared.Mi.{Mi}
 use Rattle.call_tick.specs.Tick.{ticked}
 use Rattle.call_creation.specs.Create.{created_of}
@@ -9,19 +11,12 @@ use Rattle.call_new_mi.specs.Renew.{new_mi_of}
 use Rattle.call_report.specs.Report.{reported}
 use Rattle.participant.specs.declared.Participant.{Participant}
 use Rattle.participant.specs.declared.call.Called.{Called}
-use Rattle.participant.specs.declared.call.Answer as call
-use Rattle.participant.specs.declared.call.Answer.TheVariants as on_call
 use Rattle.call_judge.specs.Judge.{basic_in}
 use Rattle.call_receive.specs.Receive.{received_of}
-use Rattle.call_accept.specs.declared.Answer as receive
-use Rattle.call_accept.specs.declared.Answer.TheVariants as on_receive
+use Rattle.call_hearing.specs.declared.keys.Wrapped.{Wrapped}
 use Rattle.call_send.specs.Send.{sent_of, left_by}
-use Rattle.call_send.specs.declared.Answer as send
-use Rattle.call_send.specs.declared.Answer.TheVariants as on_send
 use Rattle.base_octets.specs.Run.{written}
 use Rattle.frame_writer.specs.Frame.{wrote_of}
-use Rattle.frame_writer.specs.declared.Wrote.{Wrote}
-use Rattle.frame_writer.specs.declared.Wrote.TheVariants as on_write
 use Rattle.image.specs.Image.{image_of}
 
 -- "Creating takes a time, MI, SCI, priority, capability, desired flag and CKN"
@@ -34,7 +29,7 @@ pub record Creation : Type 0 where
   pub desired : Bool
   pub ckn : List ℕ
 
-unfoldable pub created : Creation → Called
+unfoldable pub created : Creation → Called (Unit {0})
 created k = created_of k.time k.mi k.sci k.priority k.capability k.desired k.ckn
 
 -- The calls with what the host gives: a time first, where the call has one.
@@ -55,11 +50,11 @@ pub data Call : Type 0 where
 
 -- What a call gives back, with what it leaves in lent octets. What a question shows is made of the participant.
 pub data Answer : Type 0 where
-  to_receive : receive.Answer → Answer
-  to_send : send.Answer → List ℕ → Answer
-  to_call : call.Answer → Answer
+  to_receive : Result Wrapped Refusal → Answer
+  to_send : Result ℕ Refusal → List ℕ → Answer
+  to_call : Result (Unit {0}) Refusal → Answer
   to_ask : Participant → Answer
-  to_save : Wrote → List ℕ → Answer
+  to_save : Result ℕ Refusal → List ℕ → Answer
 
 abbrev pub answer_of : Participant → Call → Answer
 answer_of p (receives time verdict frame) = to_receive (received_of p time verdict frame).answer
@@ -84,15 +79,11 @@ answered p (saves out) = p
 
 -- "accepted": not refused.
 abbrev pub is_accepted : Answer → Bool
-is_accepted (to_receive (on_receive.Accepted place len)) = true
-is_accepted (to_receive (on_receive.Refused n)) = false
-is_accepted (to_send (on_send.Octets n) out) = true
-is_accepted (to_send (on_send.Refused n) out) = false
-is_accepted (to_call on_call.Done) = true
-is_accepted (to_call (on_call.Refused n)) = false
+is_accepted (to_receive a) = is_ok a
+is_accepted (to_send a out) = is_ok a
+is_accepted (to_call a) = is_ok a
 is_accepted (to_ask p) = true
-is_accepted (to_save (on_write.Octets n) out) = true
-is_accepted (to_save (on_write.Refused n) out) = false
+is_accepted (to_save a out) = is_ok a
 
 abbrev pub accepts : Participant → Call → Bool
 accepts p c = is_accepted (answer_of p c)

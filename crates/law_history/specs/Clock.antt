@@ -1,7 +1,6 @@
 -- "The clock is the latest time in a call that succeeded." Proved in ClockArgument.
-use Rattle.std.specs.Prelude.{ℕ, ◌≤◌, ◌≡◌, List, ◌⊎◌}
+use Rattle.std.specs.Prelude.{ℕ, ◌≤◌, ◌≡◌, List, ◌⊎◌, Ok}
 use Rattle.std.proofs.Math.Option.{some}
-use Rattle.participant.specs.declared.call.Answer.TheVariants.{Done}
 use Rattle.law_history.specs.Calls.{Creation, created, Call, after, time_of, Made}
 
 -- an accepted call with a time
@@ -17,4 +16,4 @@ pub record Latest (k : Creation) (cs : List Call) (clock : ℕ) : Type 0 where
   pub none-later : (time : ℕ) → Timed k cs time → time ≤ clock
 
 abbrev pub ClockLatest : Type 0
-ClockLatest = (k : Creation) → (created k).answer ≡ Done → (cs : List Call) → Latest k cs (after k cs).clock
+ClockLatest = (k : Creation) → (created k).answer ≡ Ok tt → (cs : List Call) → Latest k cs (after k cs).clock

@@ -1,6 +1,6 @@
 -- Where a key on record comes from: a distribution of ours or a frame of an elected peer's handed it out, with just this MI and KN.
 -- Proved in KeysArgument.
-use Rattle.std.specs.Prelude.{ℕ, ◌+◌, ◌≡◌, Bool, true, List, ◌∷◌, ◌⊎◌}
+use Rattle.std.specs.Prelude.{ℕ, ◌+◌, ◌≡◌, Bool, true, List, ◌∷◌, ◌⊎◌, Ok, Option, Some}
 use Rattle.frame_sets.specs.Kinds.{sak_in}
 use Rattle.frame_places.specs.declared.Spot.{Spot}
 use Rattle.frame_sets.specs.declared.kinds.SakHeader.{SakHeader}
@@ -9,7 +9,6 @@ use Rattle.table_election.specs.declared.Server.TheVariants.{Elected}
 use Rattle.call_standing.specs.Standing.{server_of, elected_self}
 use Rattle.call_distribute.specs.Distribute.{next_an, confidentiality_of}
 use Rattle.participant.specs.declared.Key.{Key}
-use Rattle.participant.specs.declared.call.Answer.TheVariants.{Done}
 use Rattle.call_judge.specs.Judge.{basic_in, walk_in, places_in}
 use Rattle.law_history.specs.Calls.{Creation, created, Call, receives, distributes, after, identifier, keys_distributed, Made}
 
@@ -25,12 +24,12 @@ pub record Ours (k : Creation) (cs : List Call) (key : Key) : Type 0 where
   pub confidentiality : key.confidentiality ≡ confidentiality_of k.capability
   pub suite : key.suite ≡ 0
 
--- The Distributed SAK set of a frame, where the walk finds it.
-abbrev pub sak_spot : List ℕ → Spot
+-- The Distributed SAK set of a frame, where the walk finds it, if the frame has one; and what it says.
+abbrev pub sak_spot : List ℕ → Option Spot
 sak_spot frame = (places_in (walk_in frame)).sak
 
-abbrev pub sak_read : List ℕ → SakHeader
-sak_read frame = sak_in frame (sak_spot frame).place (sak_spot frame).len
+abbrev pub sak_read : List ℕ → Spot → SakHeader
+sak_read frame spot = sak_in frame spot.place spot.len
 
 -- An accepted frame handed the key out: its sender was Live and elected after the frame's update.
 pub record Theirs (k : Creation) (cs : List Call) (key : Key) : Type 0 where
@@ -40,19 +39,20 @@ pub record Theirs (k : Creation) (cs : List Call) (key : Key) : Type 0 where
   pub made : Made k cs (receives time verdict frame)
   pub live : live_for (held_in key.mi (after k (receives time verdict frame ∷ made.earlier)).table) ≡ true
   pub elected : server_of (after k (receives time verdict frame ∷ made.earlier)) ≡ Elected key.mi
-  pub present : (sak_spot frame).present ≡ true
-  pub filled : (sak_spot frame).len ≡ 0 → ⊥
+  pub spot : Spot
+  pub present : sak_spot frame ≡ Some spot
+  pub filled : spot.len ≡ 0 → ⊥
   pub mi : key.mi ≡ (basic_in frame).mi
-  pub kn : key.kn ≡ (sak_read frame).kn
-  pub an : key.an ≡ (sak_read frame).an
-  pub confidentiality : key.confidentiality ≡ (sak_read frame).confidentiality
-  pub suite : key.suite ≡ (sak_read frame).suite
+  pub kn : key.kn ≡ (sak_read frame spot).kn
+  pub an : key.an ≡ (sak_read frame spot).an
+  pub confidentiality : key.confidentiality ≡ (sak_read frame spot).confidentiality
+  pub suite : key.suite ≡ (sak_read frame spot).suite
 
 abbrev pub CameFrom : Creation → List Call → Key → Type 0
 CameFrom k cs key = Ours k cs key ⊎ Theirs k cs key
 
 abbrev pub LatestHandedOut : Type 0
-LatestHandedOut = (k : Creation) → (created k).answer ≡ Done → (cs : List Call) → (after k cs).latest.held ≡ true → CameFrom k cs (after k cs).latest.key
+LatestHandedOut = (k : Creation) → (created k).answer ≡ Ok tt → (cs : List Call) → (after k cs).latest.held ≡ true → CameFrom k cs (after k cs).latest.key
 
 abbrev pub OldHandedOut : Type 0
-OldHandedOut = (k : Creation) → (created k).answer ≡ Done → (cs : List Call) → (after k cs).old.held ≡ true → CameFrom k cs (after k cs).old.key
+OldHandedOut = (k : Creation) → (created k).answer ≡ Ok tt → (cs : List Call) → (after k cs).old.held ≡ true → CameFrom k cs (after k cs).old.key

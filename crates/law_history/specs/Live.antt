@@ -1,23 +1,26 @@
 -- Who is Live after a history: exactly those of whom a proof was received less than a life time before the clock, since we took our
 -- identifier. Proved in LiveArgument.
-use Rattle.std.specs.Prelude.{ℕ, ◌+◌, ◌<◌, ◌≡◌, Bool, true, ◌↔◌}
-use mathlib.Core.List.{List, ◌∷◌, ◌++◌, Memᴰ}
+use Rattle.std.specs.Prelude.{ℕ, ◌+◌, ◌<◌, ◌≡◌, Bool, true, ◌↔◌, Ok, Option, Some, None}
+use mathlib.Core.List.{List, [], ◌∷◌, ◌++◌, Memᴰ}
 use Rattle.base_mi.specs.declared.Mi.{Mi}
 use Rattle.base_mi.specs.declared.entry.Entry.{Entry}
+use Rattle.frame_places.specs.declared.Spot.{Spot}
 use Rattle.frame_walk.specs.List.{entries_in}
 use Rattle.table_expiry.specs.Expiry.{life_time}
 use Rattle.table_lookup.specs.Look.{held_in, live_for}
-use Rattle.participant.specs.declared.call.Answer.TheVariants.{Done}
 use Rattle.call_judge.specs.Judge.{basic_in, walk_in, places_in}
 use Rattle.call_hearing.specs.Proof.{window}
 use Rattle.law_history.specs.Calls.{Creation, created, Call, receives, after, identifier, numbers_sent, Made, NoneTaken}
 use Rattle.law_history.specs.Recent.{Recent}
 
+-- The entries of a list, none where the frame hasn't the list.
+abbrev pub entries_at : List ℕ → Option Spot → List Entry
+entries_at frame None = []
+entries_at frame (Some list) = entries_in frame list.place list.len
+
 -- The entries of a frame's Live and Potential lists, where the walk over its sets finds them.
 abbrev pub listed : List ℕ → List Entry
-listed frame =
-    let w = places_in (walk_in frame) in
-    entries_in frame w.live.place w.live.len ++ entries_in frame w.potential.place w.potential.len
+listed frame = let w = places_in (walk_in frame) in entries_at frame w.live ++ entries_at frame w.potential
 
 -- A proof of m at a time: an accepted frame of m's, and since then no new identifier was taken; its Live or Potential list has our
 -- identifier with a number that was recent by then, of those sent under it.
@@ -42,4 +45,4 @@ is_live_after k cs m = live_for (held_in m (after k cs).table)
 
 -- Both directions, for every identifier, also one that is not in the table.
 abbrev pub LiveExactly : Type 0
-LiveExactly = (k : Creation) → (created k).answer ≡ Done → (m : Mi) (cs : List Call) → (is_live_after k cs m ≡ true) ↔ ProvedLately life_time window k cs m
+LiveExactly = (k : Creation) → (created k).answer ≡ Ok tt → (m : Mi) (cs : List Call) → (is_live_after k cs m ≡ true) ↔ ProvedLately life_time window k cs m

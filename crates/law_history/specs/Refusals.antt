@@ -2,26 +2,19 @@
 -- Proved in RefusalsArgument.
 use Rattle.std.specs.Prelude.{ℕ, ◌≡◌, Bool, List, [], ◌∷◌, map, ◌↔◌}
 use Rattle.std.proofs.Math.Option.{Option, none, some}
+use Rattle.base_facts.specs.Refusal.{number_in}
 use Rattle.participant.specs.declared.Participant.{Participant}
 use Rattle.participant.specs.First.{NoneHolds, First}
-use Rattle.participant.specs.declared.call.Answer.TheVariants as on_call
-use Rattle.call_accept.specs.declared.Answer.TheVariants as on_receive
-use Rattle.call_send.specs.declared.Answer.TheVariants as on_send
-use Rattle.frame_writer.specs.declared.Wrote.TheVariants as on_write
 use Rattle.law_history.specs.Calls.{Call, receives, sends, distributes, ticks, renews, reports, asks, saves, Answer, to_receive, to_send, to_call, to_ask, to_save, answer_of, answered}
 use Rattle.law_history.specs.Steps.{facts}
 
 -- The number that an answer carries, if it refuses.
 abbrev pub refusal_in : Answer → Option ℕ
-refusal_in (to_receive (on_receive.Accepted place len)) = none
-refusal_in (to_receive (on_receive.Refused n)) = some n
-refusal_in (to_send (on_send.Octets n) left) = none
-refusal_in (to_send (on_send.Refused n) left) = some n
-refusal_in (to_call on_call.Done) = none
-refusal_in (to_call (on_call.Refused n)) = some n
+refusal_in (to_receive a) = number_in a
+refusal_in (to_send a left) = number_in a
+refusal_in (to_call a) = number_in a
 refusal_in (to_ask p) = none
-refusal_in (to_save (on_write.Octets n) left) = none
-refusal_in (to_save (on_write.Refused n) left) = some n
+refusal_in (to_save a left) = number_in a
 
 -- The numbers of a call's facts in their order: "Send: 1, 14, 13. Distribute: 1, 15, 17, 14."; the others by what they are about, lowest first.
 abbrev pub order : Call → List ℕ

@@ -1,13 +1,11 @@
 -- When an identifier was last proved, over expiry and entering: what liveness comes from.
-use Rattle.std.specs.Prelude.{ℕ, ◌+◌, ◌≤◌, ◌≡◌, refl, Bool, true, false, cond, List, [], ◌∷◌, length}
+use Rattle.std.specs.Prelude.{ℕ, ◌+◌, ◌≤◌, ◌≡◌, refl, Bool, true, false, cond, Option, Some, None, List, [], ◌∷◌, length}
 use Rattle.std.proofs.Common.{ap, sym, ◌∙◌, leb-true}
-use Rattle.std.proofs.Math.Option.{Option, none, some}
 use Rattle.base_mi.specs.declared.Mi.{Mi}
 use Rattle.base_mi.specs.Mi.{mi_same}
 use Rattle.table.specs.declared.Peer.{Peer}
 use Rattle.table.specs.declared.Table.{Table}
 use Rattle.table_lookup.specs.declared.Held.{Held}
-use Rattle.table_lookup.specs.declared.Held.TheVariants.{At, Missing}
 use Rattle.table_enter.specs.declared.Heard.{Heard}
 use Rattle.law_lists.specs.Lists.{every}
 use Rattle.table.specs.Table.{entries}
@@ -24,25 +22,25 @@ use Rattle.law_kept.specs.Keeping.{absent-aged}
 use Rattle.law_kept.specs.Apart.{seek-absent}
 
 -- an identifier is Live exactly where it has a proof
-pub live-proved : (held : Held) → live_for held ≡ is_some (proved_at held)
-live-proved (At i p) = by_cases p.proven (λ e. rw e) (λ e. rw e)
-live-proved Missing = refl
+pub live-proved : (held : Option Held) → live_for held ≡ is_some (proved_at held)
+live-proved (Some h) = by_cases h.peer.proven (λ e. rw e) (λ e. rw e)
+live-proved None = refl
 
 -- a proof that is aged to a time and then to a later one
 pub proof-later : (clock time : ℕ) (x : Option ℕ) → clock ≤ time → aged_proof time (aged_proof clock x) ≡ aged_proof time x
-proof-later clock time none h = refl
-proof-later clock time (some at) h =
+proof-later clock time None h = refl
+proof-later clock time (Some at) h =
     by_cases (fresh_at clock at) (λ e. rw e) (λ e. rw (e, old-later clock time at h e))
 
 -- one entry's proof over expiry
-proof-aged : (time j k : ℕ) (p : Peer) → proved_at (At j (aged_peer time p)) ≡ aged_proof time (proved_at (At k p))
+proof-aged : (time j k : ℕ) (p : Peer) → proved_at (Some (record { at = j; peer = aged_peer time p })) ≡ aged_proof time (proved_at (Some (record { at = k; peer = p })))
 proof-aged time j k p =
     by_cases p.proven
     (λ a. by_cases (fresh_at time p.proof) (λ b. rw (a, b)) (λ b. rw (a, b)))
     (λ a. rw a)
 
 -- where an entry goes, its proof is old too
-proof-gone : (time k : ℕ) (p : Peer) → ordered p ≡ true → fresh_peer time p ≡ false → aged_proof time (proved_at (At k p)) ≡ none
+proof-gone : (time k : ℕ) (p : Peer) → ordered p ≡ true → fresh_peer time p ≡ false → aged_proof time (proved_at (Some (record { at = k; peer = p }))) ≡ None
 proof-gone time k p o f =
     by_cases p.proven
     (λ a.
@@ -75,13 +73,13 @@ unfolding held_in
 proved-expired m time t d o = ap (λ (l : List Peer). proved_at (seek m 0 l)) (entries-expired time t) ∙ list-proved time 0 0 m (entries t) d o
 
 module _ (h : Heard) (proves : Bool) (time : ℕ) (t : Table) (whole : length t.peers ≡ 16) where
-  updated-proved : (i : ℕ) (held : Held) → proved_at (At i (updated (held_peer held) h proves time)) ≡ cond proves (some time) (proved_at held)
+  updated-proved : (i : ℕ) (held : Option Held) → proved_at (Some (record { at = i; peer = updated (held_peer held) h proves time })) ≡ cond proves (Some time) (proved_at held)
   unfolding updated
-  updated-proved i (At j p) = by_cases proves (λ b. rw b) (λ b. rw b)
-  updated-proved i Missing = by_cases proves (λ b. rw b) (λ b. rw b)
+  updated-proved i (Some old) = by_cases proves (λ b. rw b) (λ b. rw b)
+  updated-proved i None = by_cases proves (λ b. rw b) (λ b. rw b)
 
   -- a frame that proves sets its sender's proof, and any other leaves it
-  pub proved-own : no_room_for (held_in h.mi t) t ≡ false → proved_at (held_in h.mi (entered h proves time t)) ≡ cond proves (some time) (proved_at (held_in h.mi t))
+  pub proved-own : no_room_for (held_in h.mi t) t ≡ false → proved_at (held_in h.mi (entered h proves time t)) ≡ cond proves (Some time) (proved_at (held_in h.mi t))
   proved-own room-left =
       let r = own-entered h proves time t whole room-left in ap proved_at r.1 ∙ updated-proved r.0 (held_in h.mi t)
 

@@ -1,6 +1,6 @@
 -- Entering and updating, as a law of the list of entries.
 use Prim.Native.Nat.{ℕ, zero, suc, ◌+◌, ◌-◌, ◌≤◌, ◌<◌, min}
-use Rattle.std.specs.Prelude.{◌≡◌, refl, Bool, set, replicate}
+use Rattle.std.specs.Prelude.{◌≡◌, refl, Bool, Option, Some, None, set, replicate}
 use Rattle.std.proofs.Math.Path.{ap, sym}
 use Rattle.std.proofs.Common.{◌∙◌, length-set, length-append}
 use Rattle.std.proofs.Math.Bool.{true, false}
@@ -16,7 +16,6 @@ use Rattle.base_mi.specs.Mi.{mi_same}
 use Rattle.table.specs.declared.Peer.{Peer}
 use Rattle.table.specs.declared.Table.{Table}
 use Rattle.table_lookup.specs.declared.Held.{Held}
-use Rattle.table_lookup.specs.declared.Held.TheVariants.{At, Missing}
 use Rattle.table_enter.specs.declared.Heard.{Heard}
 use Rattle.table.specs.Table.{blank_peer, entries, table_of, pushed}
 use Rattle.table_lookup.specs.Look.{seek, held_in, no_room_for}
@@ -24,21 +23,22 @@ use Rattle.table_enter.specs.Enter.{held_peer, replaced, updated, entered_at, en
 use Rattle.table_expiry.specs.Kept.{Tidy}
 use Rattle.law_lists.proofs.Laws.{by_cases, clash, never, pad-snoc}
 use Rattle.law_kept.specs.Same.{same-eq, same_refl}
+use Rattle.law_kept.specs.Apart.{found-same}
 use Rattle.table_expiry.proofs.Aging.{whole-tidy}
 
 -- a proof by what looking up gave
-pub by-held {ℓ} : {C : Type ℓ} (held : Held) → ((i : ℕ) (p : Peer) → held ≡ At i p → C) → (held ≡ Missing → C) → C
-by-held (At i p) a n = a i p refl
-by-held Missing a n = n refl
+pub by-held {ℓ} : {C : Type ℓ} (held : Option Held) → ((i : ℕ) (p : Peer) → held ≡ Some (record { at = i; peer = p }) → C) → (held ≡ None → C) → C
+by-held (Some h) a n = a h.at h.peer refl
+by-held None a n = n refl
 
-found-missing {ℓ} : {C : Type ℓ} (i : ℕ) (p : Peer) → At i p ≡ Missing → C
-found-missing i p e = never (cc)
+pub found-missing {ℓ} : {C : Type ℓ} (h : Held) → Some h ≡ None → C
+found-missing h e = never (cc)
 
-seek-above : (m : Mi) (k i : ℕ) (p : Peer) (l : List Peer) → seek m k l ≡ At i p → k ≤ i
-seek-above m k i p [] e = found-missing i p (sym e)
+seek-above : (m : Mi) (k i : ℕ) (p : Peer) (l : List Peer) → seek m k l ≡ Some (record { at = i; peer = p }) → k ≤ i
+seek-above m k i p [] e = found-missing _ (sym e)
 seek-above m k i p (q ∷ l) e =
     by_cases (mi_same m q.mi)
-    (λ b. let a : k ≡ i = cc (rw b at e) in omega arith)
+    (λ b. let a : k ≡ i = ap (λ (h : Held). h.at) (found-same (rw b at e)) in omega arith)
     (λ b. omega (arith, seek-above m (k + 1) i p l (rw b at e)))
 
 -- an entry stored and an entry put at the end, in the table of a list
@@ -56,27 +56,27 @@ module _ (h : Heard) (proves : Bool) (time : ℕ) where
   -- ---- the list
 
   -- where the sender was found, its entry is updated in its place
-  enter-found : (k j : ℕ) (p : Peer) (l : List Peer) → seek h.mi k l ≡ At (k + j) p
+  enter-found : (k j : ℕ) (p : Peer) (l : List Peer) → seek h.mi k l ≡ Some (record { at = k + j; peer = p })
       → (j < length l) × (set l j (updated p h proves time) ≡ enter_list h proves time l)
-  enter-found k j p [] e = found-missing (k + j) p (sym e)
+  enter-found k j p [] e = found-missing _ (sym e)
   enter-found k zero p (q ∷ l) e =
       by_cases (mi_same h.mi q.mi)
-      (λ b. let a : q ≡ p = cc (rw b at e) in (omega arith, rw (b, a)))
+      (λ b. let a : q ≡ p = ap (λ (h : Held). h.peer) (found-same (rw b at e)) in (omega arith, rw (b, a)))
       (λ b. absurd (omega (arith, seek-above h.mi (k + 1) (k + 0) p l (rw b at e))))
   enter-found k (suc j) p (q ∷ l) e =
       by_cases (mi_same h.mi q.mi)
-      (λ b. let a : k ≡ k + suc j = cc (rw b at e) in absurd (omega arith))
+      (λ b. let a : k ≡ k + suc j = ap (λ (h : Held). h.at) (found-same (rw b at e)) in absurd (omega arith))
       (λ b.
       let n : k + suc j ≡ k + 1 + j = omega arith in
       let r = enter-found (k + 1) j p l (rw (b, n) at e) in
       (omega (arith, r.0), rw b (ap (λ (x : List Peer). q ∷ x) r.1)))
 
   -- where it was not, it is entered at the end
-  enter-new : (k : ℕ) (l : List Peer) → seek h.mi k l ≡ Missing → enter_list h proves time l ≡ l ++ (updated blank_peer h proves time ∷ [])
+  enter-new : (k : ℕ) (l : List Peer) → seek h.mi k l ≡ None → enter_list h proves time l ≡ l ++ (updated blank_peer h proves time ∷ [])
   enter-new k [] e = refl
   enter-new k (q ∷ l) e =
       by_cases (mi_same h.mi q.mi)
-      (λ b. found-missing k q (rw b at e))
+      (λ b. found-missing _ (rw b at e))
       (λ b. rw b (ap (λ (x : List Peer). q ∷ x) (enter-new (k + 1) l (rw b at e))))
 
   -- another identifier's entry and place stay
@@ -89,7 +89,7 @@ module _ (h : Heard) (proves : Bool) (time : ℕ) where
       (λ b. rw (b, seek-other m (k + 1) l d))
 
   -- the sender's own entry is the updated one
-  seek-own : (k : ℕ) (l : List Peer) → (i : ℕ) × (seek h.mi k (enter_list h proves time l) ≡ At i (updated (held_peer (seek h.mi k l)) h proves time))
+  seek-own : (k : ℕ) (l : List Peer) → (i : ℕ) × (seek h.mi k (enter_list h proves time l) ≡ Some (record { at = i; peer = updated (held_peer (seek h.mi k l)) h proves time }))
   unfolding updated
   seek-own k [] = (k, rw (same_refl h.mi))
   seek-own k (p ∷ l) =
@@ -108,11 +108,11 @@ module _ (h : Heard) (proves : Bool) (time : ℕ) where
       (λ e. let c : leb 16 t.count ≡ true = rw e at full in rw (e, le-ltb t.count 16 (leb-true 16 t.count c)))
 
   module _ (t : Table) (room-left : no_room_for (held_in h.mi t) t ≡ false) where
-    found_at : (i : ℕ) (p : Peer) → held_in h.mi t ≡ At i p → (i < length (entries t)) × (set (entries t) i (updated p h proves time) ≡ enter_list h proves time (entries t))
+    found_at : (i : ℕ) (p : Peer) → held_in h.mi t ≡ Some (record { at = i; peer = p }) → (i < length (entries t)) × (set (entries t) i (updated p h proves time) ≡ enter_list h proves time (entries t))
     unfolding held_in
     found_at i p e = let n : i ≡ 0 + i = omega arith in enter-found 0 i p (entries t) (rw n at e)
 
-    new-at : held_in h.mi t ≡ Missing → (t.count < 16) × (enter_list h proves time (entries t) ≡ entries t ++ (updated blank_peer h proves time ∷ []))
+    new-at : held_in h.mi t ≡ None → (t.count < 16) × (enter_list h proves time (entries t) ≡ entries t ++ (updated blank_peer h proves time ∷ []))
     unfolding held_in
     new-at e = (leb-false 16 t.count (rw e at room-left), enter-new 0 (entries t) e)
 
@@ -138,7 +138,7 @@ module _ (h : Heard) (proves : Bool) (time : ℕ) where
         by-held (held_in h.mi t)
         (λ i p e.
         let r = found_at i p e in
-        rw e (ap (entered_at (At i p) h proves time) tidy ∙ set-table_of (entries t) i (updated p h proves time) r.0 ∙ ap table_of r.1))
+        rw e (ap (entered_at (Some (record { at = i; peer = p })) h proves time) tidy ∙ set-table_of (entries t) i (updated p h proves time) r.0 ∙ ap table_of r.1))
         (λ e.
         let r = new-at e in
         let x = updated blank_peer h proves time in
@@ -163,7 +163,7 @@ module _ (h : Heard) (proves : Bool) (time : ℕ) where
 
   -- and the sender's entry is what the frame makes of the one that was held
   pub own-entered : (t : Table) → length t.peers ≡ 16 → no_room_for (held_in h.mi t) t ≡ false
-      → (i : ℕ) × (held_in h.mi (entered h proves time t) ≡ At i (updated (held_peer (held_in h.mi t)) h proves time))
+      → (i : ℕ) × (held_in h.mi (entered h proves time t) ≡ Some (record { at = i; peer = updated (held_peer (held_in h.mi t)) h proves time }))
   unfolding held_in
   own-entered t whole room-left =
       let r = seek-own 0 (entries t) in (r.0, ap (seek h.mi 0) (entries-entered t room-left whole) ∙ r.1)

@@ -1,5 +1,5 @@
 -- What expiry and entering keep of the entries, and what expiry brings about.
-use Rattle.std.specs.Prelude.{ℕ, ◌≤◌, ◌≡◌, false, ◌&&◌, eqb}
+use Rattle.std.specs.Prelude.{ℕ, ◌≤◌, ◌≡◌, false, ◌&&◌, Option, eqb}
 use Rattle.std.proofs.Math.Path.{refl}
 use Rattle.std.proofs.Common.{ap, sym, ◌∙◌, arith}
 use Rattle.std.proofs.Math.Bool.{Bool, true, not}
@@ -183,7 +183,7 @@ module _ (h : Heard) (proves : Bool) (time : ℕ) where
           (λ b. rw b (by_cases p.proven (λ s. rw s t) (λ s. rw s)))
 
 -- a frame that fact 11 lets through has a number
-pub not-stale : (held : Held) (mn : ℕ) → stale_for held mn ≡ false → eqb mn 0 ≡ false
+pub not-stale : (held : Option Held) (mn : ℕ) → stale_for held mn ≡ false → eqb mn 0 ≡ false
 not-stale held mn e = by_cases (eqb mn 0) (λ z. clash (sym e ∙ rw z)) (λ z. z)
 
 -- ---- all of it, of a table

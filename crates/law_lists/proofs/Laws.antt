@@ -51,7 +51,7 @@ pub or_swap : (a b : Bool) → a || b ≡ b || a
 or_swap true b = sym (or-true b)
 or_swap false b = sym (or-none b)
 
-module _ {ℓ} {A : Type ℓ} where
+module _ {A : Type 0} where
   -- what a loop that goes through the first n has left
   drop-next : (n i : ℕ) (l : List A) (d : A) → i < n → n ≤ length l → drop i (take n l) ≡ get_or l i d ∷ drop (i + 1) (take n l)
   drop-next n i l d h m =
@@ -123,7 +123,7 @@ module _ {ℓ} {A : Type ℓ} where
       let e : n - length l ≡ suc (n - (length l + 1)) = omega arith in
       rw (e, set-append_seam, length-append, append_assoc)
 
-module _ {ℓ} {A B : Type ℓ} (g : A → B) where
+module _ {A B : Type 0} (g : A → B) where
   pub map-append : (l m : List A) → map g (l ++ m) ≡ map g l ++ map g m
   map-append [] m = refl
   map-append (x ∷ l) m = ap (λ (k : List B). g x ∷ k) (map-append l m)

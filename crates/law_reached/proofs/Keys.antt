@@ -1,5 +1,5 @@
 -- Of the keys' records: "AN and confidentiality under 4; transmit only with receive", "keys distinct, KN not 0, nor above ours under our MI".
-use Rattle.std.specs.Prelude.{ℕ, ◌+◌, ◌^◌, ◌≤◌, ◌<◌, ◌≡◌, refl, Bool, true, false, cond, not, ◌&&◌, ◌||◌, List, [], eqb}
+use Rattle.std.specs.Prelude.{ℕ, ◌+◌, ◌^◌, ◌≤◌, ◌<◌, ◌≡◌, refl, Bool, true, false, cond, not, ◌&&◌, ◌||◌, List, [], eqb, Ok, Some}
 use Rattle.std.proofs.Common.{ap, sym, ◌∙◌, arith, le-leb, lt-ltb, eqb-true, ne_eqb}
 use Rattle.std.proofs.lemmas.Bool.{not-false}
 use Rattle.base_octets.specs.Octets.{Octets}
@@ -17,7 +17,6 @@ use Rattle.participant.specs.Keys.{no_slot, slot_of, of_member, is_key, with_key
 use Rattle.participant.specs.declared.Key.{Key}
 use Rattle.participant.specs.declared.Slot.{Slot}
 use Rattle.participant.specs.declared.Participant.{Participant}
-use Rattle.participant.specs.declared.call.Answer.TheVariants.{Done}
 use Rattle.participant.specs.First.{NoneHolds}
 use Rattle.law_calls.specs.FieldsArgument.{an-below}
 use Rattle.law_calls.specs.Passed.{receive-passed, distribute-passed, renew-passed}
@@ -39,6 +38,7 @@ use Rattle.law_history.specs.Keys.{sak_spot, sak_read}
 use Rattle.law_reached.specs.Carried.{Carried}
 use Rattle.law_reached.proofs.Own.{Own}
 use Rattle.law_reached.proofs.Peers.{sender-fits}
+use Rattle.frame_places.specs.declared.Spot.{Spot}
 use Rattle.law_reached.proofs.Sak.{Carries, handed_out}
 
 -- a key on record, where ours are the MI `own` and the KN `kn`
@@ -163,20 +163,20 @@ module _ (q : Participant) (s : List ℕ) (m : Mi) where
   unknown {ℓ} : {C : Type ℓ}
       → ((keyed_of q s m (sak_spot s)).participant ≡ q → C)
       → ((keyed_of q s m (sak_spot s)).participant ≡ without_keys q → C)
-      → ((sak_spot s).present ≡ true → eqb (sak_spot s).len 0 ≡ false → is_known q m (sak_read s).kn ≡ false → (keyed_of q s m (sak_spot s)).participant ≡ with_key q (key_from m (sak_read s)) → C)
+      → ((spot : Spot) → sak_spot s ≡ Some spot → eqb spot.len 0 ≡ false → is_known q m (sak_read s spot).kn ≡ false → (keyed_of q s m (sak_spot s)).participant ≡ with_key q (key_from m (sak_read s spot)) → C)
       → C
   unfolding keyed_of
   unknown same dropped entered =
       by-keyed q s m (sak_spot s) same dropped
-      (λ a b d x. by_cases (is_known q m (sak_read s).kn) (λ e. same (rw (a, b, d, e))) (λ e. entered a d e x))
+      (λ spot a b d x. by_cases (is_known q m (sak_read s spot).kn) (λ e. same (rw (a, b, d, e))) (λ e. entered spot a d e x))
 
-theirs-fits : (frame : List ℕ) → Octets frame → Carries frame → FitKey (key_from (basic_in frame).mi (sak_read frame))
+theirs-fits : (frame : List ℕ) (spot : Spot) → Octets frame → Carries frame spot → FitKey (key_from (basic_in frame).mi (sak_read frame spot))
 unfolding key_from
-theirs-fits frame o h = record { mi = sender-fits frame o; kn = h.width; suite = h.suite }
+theirs-fits frame spot o h = record { mi = sender-fits frame o; kn = h.width; suite = h.suite }
 
-theirs-right : (own : Mi) (kn : ℕ) (frame : List ℕ) → mi_same own (basic_in frame).mi ≡ false → Carries frame → OnRecord own kn (key_from (basic_in frame).mi (sak_read frame))
+theirs-right : (own : Mi) (kn : ℕ) (frame : List ℕ) (spot : Spot) → mi_same own (basic_in frame).mi ≡ false → Carries frame spot → OnRecord own kn (key_from (basic_in frame).mi (sak_read frame spot))
 unfolding key_from
-theirs-right own kn frame other h =
+theirs-right own kn frame spot other h =
     record {
       an = h.an;
       confidentiality = h.confidentiality;
@@ -194,11 +194,11 @@ received p time verdict frame other o k =
     unknown (updated_in p time frame) frame m
     (λ x. rw x k)
     (λ x. rw x (no_keys p.mi p.kn))
-    (λ a d n x.
-    let h = handed_out frame o a d in
+    (λ spot a d n x.
+    let h = handed_out frame spot o a d in
     rw x
-    (one_more p.mi p.kn (key_from m (sak_read frame)) p.latest (theirs-fits frame o h) (theirs-right p.mi p.kn frame other h)
-    (or-false (is_key p.latest m (sak_read frame).kn) _ n).0 k.latest))
+    (one_more p.mi p.kn (key_from m (sak_read frame spot)) p.latest (theirs-fits frame spot o h) (theirs-right p.mi p.kn frame spot other h)
+    (or-false (is_key p.latest m (sak_read frame spot).kn) _ n).0 k.latest))
 
 -- ---- a report
 
@@ -233,7 +233,7 @@ reported own kn latest old m n transmit f18 k =
 abbrev pub KeysOf : Participant → Type 0
 KeysOf p = Keys p.mi p.kn p.latest p.old
 
-pub keys-start : (k : Creation) → (created k).answer ≡ Done → KeysOf (after k [])
+pub keys-start : (k : Creation) → (created k).answer ≡ Ok tt → KeysOf (after k [])
 unfolding fresh
 keys-start k ok = rw (start k ok) (no_keys k.mi 0)
 

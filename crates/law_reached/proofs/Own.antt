@@ -1,5 +1,5 @@
 -- Of the own record: "the creating ranges", "zero in each unused place", "times not after the clock", and the widths.
-use Rattle.std.specs.Prelude.{ℕ, zero, suc, ◌+◌, ◌^◌, ◌≤◌, ◌<◌, ◌≡◌, Bool, true, false, not, ◌||◌, List, [], ◌∷◌, ◌++◌, length, drop, replicate, eqb, ltb}
+use Rattle.std.specs.Prelude.{ℕ, zero, suc, ◌+◌, ◌^◌, ◌≤◌, ◌<◌, ◌≡◌, Bool, true, false, not, ◌||◌, List, [], ◌∷◌, ◌++◌, length, drop, replicate, eqb, ltb, Ok}
 use Rattle.std.proofs.Math.Path.{refl}
 use Rattle.std.proofs.Common.{ap, sym, ◌∙◌, arith, drop_at, le-leb, ltb-false, ne_eqb}
 use Rattle.std.proofs.Math.Seq.{length-sets}
@@ -14,7 +14,6 @@ use Rattle.call_distribute.specs.Distribute.{with_fresh}
 use Rattle.participant.specs.Keys.{with_key}
 use Rattle.participant.specs.declared.Participant.{Participant}
 use Rattle.participant.specs.declared.call.Called.{Called}
-use Rattle.participant.specs.declared.call.Answer.TheVariants.{Done}
 use Rattle.participant.specs.First.{NoneHolds}
 use Rattle.participant.proofs.Settle.{on-done}
 use Rattle.law_calls.specs.Settled.{create-settles}
@@ -80,13 +79,13 @@ nothing-sent clock = record { width = omega arith; unused = refl; past = omega a
 nothing-distributed : (clock : ℕ) → Distributing 0 0 clock (replicate 24 0)
 nothing-distributed clock = record { width = omega arith; unused = refl; past = omega arith; long = refl }
 
-module _ (k : Creation) (ok : (created k).answer ≡ Done) (given : Given k) where
+module _ (k : Creation) (ok : (created k).answer ≡ Ok tt) (given : Given k) where
   ranged : bad_start (length k.ckn) k.capability ≡ false
   unfolding created
   ranged =
       let e = create-settles k.time k.mi k.sci k.priority k.capability k.desired k.ckn in
       let p = fresh k.time k.mi k.sci k.priority k.capability k.desired k.ckn in
-      (on-done empty_participant p ((15, bad_start (length k.ckn) k.capability) ∷ []) refl (ap (λ (r : Called). r.answer) (sym e) ∙ ok)).1.0
+      (on-done empty_participant p ((15, bad_start (length k.ckn) k.capability) ∷ []) refl (ap (λ (r : Called (Unit {0})). r.answer) (sym e) ∙ ok)).1.0
 
   short : length k.ckn ≤ 32
   short =

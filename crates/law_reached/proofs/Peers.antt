@@ -1,5 +1,5 @@
 -- Of the peers' records, past what every table keeps: the widths, and two bits of capability. Each entry comes from a frame.
-use Rattle.std.specs.Prelude.{ℕ, ◌^◌, ◌<◌, ◌≡◌, refl, Bool, true, false, List, [], ◌∷◌}
+use Rattle.std.specs.Prelude.{ℕ, ◌^◌, ◌<◌, ◌≡◌, refl, Bool, true, false, List, [], ◌∷◌, Ok}
 use Rattle.std.proofs.Common.{◌∙◌, arith}
 use borrow.Author.Tests.{lt-ltb}
 use Rattle.base_octets.specs.Octets.{Octets}
@@ -26,7 +26,6 @@ use Rattle.call_new_mi.specs.Renew.{renewed}
 use Rattle.call_distribute.specs.Distribute.{with_fresh}
 use Rattle.participant.specs.Keys.{with_key}
 use Rattle.participant.specs.declared.Participant.{Participant}
-use Rattle.participant.specs.declared.call.Answer.TheVariants.{Done}
 use Rattle.participant.specs.First.{NoneHolds}
 use Rattle.law_calls.specs.Passed.{receive-passed}
 use Rattle.call_judge.specs.Judge.{basic_in}
@@ -122,7 +121,7 @@ module _ (h : Heard) (proves : Bool) (time : ℕ) (s : Said h) (lt : time < 2 ^ 
 abbrev pub Peers : Participant → Type 0
 Peers p = Entries (entries p.table)
 
-pub peers-start : (k : Creation) → (created k).answer ≡ Done → Peers (after k [])
+pub peers-start : (k : Creation) → (created k).answer ≡ Ok tt → Peers (after k [])
 unfolding fresh
 peers-start k ok = rw (start k ok, entries-empty) none_yet
 

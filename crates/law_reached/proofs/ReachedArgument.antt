@@ -1,13 +1,12 @@
 -- Why: every rule of an image is kept by every accepted call, of the own record, the table, its peers and the keys.
-use Rattle.std.specs.Prelude.{◌≡◌, true, List, []}
+use Rattle.std.specs.Prelude.{◌≡◌, true, List, [], Ok}
 use Rattle.std.proofs.Common.{◌∙◌}
 use Rattle.law_lists.proofs.Laws.{both}
 use Rattle.table.specs.Table.{entries}
 use Rattle.participant.specs.declared.Participant.{Participant}
-use Rattle.participant.specs.declared.call.Answer.TheVariants.{Done}
 use Rattle.participant.specs.First.{NoneHolds}
 use Rattle.image_rules.specs.Rules.{rules}
-use Rattle.image_rules.specs.ByRecord.{peers-by-rule, by-record}
+use Rattle.image_rules.specs.ByRecord.{peers-by-rule, by_record}
 use Rattle.law_saved.specs.WellFormed.{WellFormed}
 use Rattle.law_history.specs.Calls.{Creation, created, Call, after}
 use Rattle.law_history.specs.Steps.{facts, becomes}
@@ -26,7 +25,7 @@ pub record Parts (p : Participant) : Type 0 where
   pub peers : Peers p
   pub keys : KeysOf p
 
-start-parts : (k : Creation) → (created k).answer ≡ Done → Given k → Parts (after k [])
+start-parts : (k : Creation) → (created k).answer ≡ Ok tt → Given k → Parts (after k [])
 start-parts k ok given = record { own = own-start k ok given; table = keeps k []; peers = peers-start k ok; keys = keys-start k ok }
 
 -- each is kept by every accepted call
@@ -42,7 +41,7 @@ becomes-parts p c h v s =
 rules-hold : (p : Participant) → Parts p → rules p ≡ true
 rules-hold p s =
     let peers = peers-by-rule p.mi p.clock (entries p.table) ∙ both _ _ s.peers.capabilities s.table.rules in
-    by-record p ∙ both _ _ (own-good p s.own) (both _ _ peers (keys-good p s.keys))
+    by_record p ∙ both _ _ (own-good p s.own) (both _ _ peers (keys-good p s.keys))
 
 pub well-formed : (p : Participant) → Parts p → WellFormed p
 well-formed p s =
@@ -58,7 +57,7 @@ well-formed p s =
       kept = rules-hold p s;
     }
 
-pub parts : (k : Creation) → (created k).answer ≡ Done → Given k → (cs : List Call) → AllCarried cs → Parts (after k cs)
+pub parts : (k : Creation) → (created k).answer ≡ Ok tt → Given k → (cs : List Call) → AllCarried cs → Parts (after k cs)
 parts k ok given cs carried = throughout k Parts (start-parts k ok given) becomes-parts cs carried
 
 pub reached : Reached

@@ -1,7 +1,6 @@
 -- Each frame that a history sent is read back: our identifier of then, the next number, our peers and keys. Proved in SendsArgument.
-use Rattle.std.specs.Prelude.{ℕ, ◌+◌, ◌≡◌, List, length}
+use Rattle.std.specs.Prelude.{ℕ, ◌+◌, ◌≡◌, List, length, Ok}
 use Rattle.participant.specs.Call.{aged_to}
-use Rattle.participant.specs.declared.call.Answer.TheVariants.{Done}
 use Rattle.call_judge.specs.Judge.{basic_in}
 use Rattle.call_send.specs.Send.{left_by}
 use Rattle.law_sends.specs.Sent.{Tells}
@@ -19,5 +18,5 @@ pub record ReadBack (k : Creation) (earlier : List Call) (time latest_pn old_pn 
 -- Every accepted send of every history.
 abbrev pub ReachedSends : Type 0
 ReachedSends =
-    (k : Creation) → (created k).answer ≡ Done → Given k → (cs : List Call) → AllCarried cs → (time latest_pn old_pn : ℕ) (out : List ℕ) (made : Made k cs (sends time latest_pn old_pn out))
+    (k : Creation) → (created k).answer ≡ Ok tt → Given k → (cs : List Call) → AllCarried cs → (time latest_pn old_pn : ℕ) (out : List ℕ) (made : Made k cs (sends time latest_pn old_pn out))
     → ReadBack k made.earlier time latest_pn old_pn (left_by (after k made.earlier) time latest_pn old_pn out)

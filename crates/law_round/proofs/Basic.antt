@@ -15,7 +15,7 @@ use Rattle.base_packed.specs.Basic.{flags_of, octet_of}
 use Rattle.base_packed.specs.declared.basic.Flags.{Flags}
 use Rattle.base_packed.proofs.Laws.{basic-round}
 use Rattle.frame.specs.Basic.{body_len, basic_len, icv_place, fact2, fact3, fact4, fact5, basic_fields, basic_of}
-use Rattle.frame.specs.declared.BasicRead.TheVariants.{Read}
+use Rattle.std.specs.Prelude.{Ok}
 use Rattle.frame_writer.specs.Frame.{header_octets, sender_flags, fixed_octets}
 use Rattle.frame_writer.specs.declared.Sender.{Sender}
 use Rattle.frame_writer.proofs.Laws.{length-header}
@@ -72,7 +72,7 @@ next_place n = omega arith
 
 -- any frame that begins so, with a body that fits and is long enough
 pub basic-read : (x : Sender) (b : ℕ) (q : List ℕ) → GoodSender x → b < 2 ^ 16 → b + 4 ≤ length (begun x b x.size q) → b % 4 ≡ 0 → 48 + padded_of x.size ≤ b
-    → basic_of (begun x b x.size q) ≡ Read (basic_written x b)
+    → basic_of (begun x b x.size q) ≡ Ok (basic_written x b)
 unfolding basic_of basic_fields
 basic-read x b q r hb fit m4 room =
     let n = x.size in
@@ -88,7 +88,7 @@ basic-read x b q r hb fit m4 room =
     let t3 : fact3 f ≡ false = rw (o.0, o.1) in
     let t4 : fact4 b ≡ false = rw (le-ltb b 32 (omega arith), m4) in
     let t5 : fact5 (28 + n) b ≡ false = rw (le-ltb (28 + n) 29 (omega arith), le-ltb 60 (28 + n) (omega arith)) (le-ltb b (4 + padded_of (28 + n) + 16) (omega arith)) in
-    rw (t2, t3, eb, t4, el, t5) (λ i. Read (record {
+    rw (t2, t3, eb, t4, el, t5) (λ i. Ok (record {
       version = o.2 i;
       priority = o.3 i;
       server = ((ap flags_of o.4 ∙ fl) i).server;

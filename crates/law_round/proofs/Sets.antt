@@ -1,5 +1,5 @@
 -- A set that stands in a frame: its header, the walk over it, and what it says, read again.
-use Rattle.std.specs.Prelude.{ℕ, ◌+◌, ◌-◌, ◌*◌, ◌/◌, ◌%◌, ◌≤◌, ◌<◌, ◌≡◌, refl, List, [], ◌∷◌, ◌++◌, Bool, true, false, cond, length, get_or}
+use Rattle.std.specs.Prelude.{ℕ, ◌+◌, ◌-◌, ◌*◌, ◌/◌, ◌%◌, ◌≤◌, ◌<◌, ◌≡◌, refl, List, [], ◌∷◌, ◌++◌, true, false, length, get_or, Option}
 use Rattle.std.proofs.Math.Path.{ap, ap₂}
 use Rattle.std.proofs.Common.{sym, ◌∙◌, add-zero, length-append}
 use native.Mathlib.Omega.{arith}
@@ -19,7 +19,7 @@ use Rattle.base_packed.specs.declared.used.Used.{Used}
 use Rattle.base_packed.specs.declared.sak.SakFlags.{SakFlags}
 use Rattle.base_packed.proofs.Laws.{used-round, sak-round}
 use Rattle.frame_sets.specs.Kinds.{key_use_at, sak_use_at, sak_at}
-use Rattle.frame_places.specs.Once.{absent_spot, spot_at, holds, places_with}
+use Rattle.frame_places.specs.Once.{spot_at, holds, places_with}
 use Rattle.frame_sets.specs.Set.{len_at, bad_set}
 use Rattle.frame_rules.specs.Rules.{allowed, extent_of, unnumbered}
 use Rattle.frame_places.specs.declared.Spot.{Spot}
@@ -32,7 +32,7 @@ use Rattle.frame_walk.proofs.Laws.{walk-next}
 use Rattle.frame_writer.specs.Frame.{set_header, list_octets, use_flags, use_octets, use_set, sak_set}
 use Rattle.frame_writer.specs.declared.Sak.{Sak}
 use Rattle.frame_writer.proofs.Laws.{length-key}
-use Rattle.law_round.specs.Ranged.{GoodEntries, GoodKey, GoodSak, sak_written, spot_if}
+use Rattle.law_round.specs.Ranged.{GoodEntries, GoodKey, GoodSak, sak_written}
 
 -- ---- a set's header
 
@@ -139,17 +139,17 @@ module _ (f : List ℕ) (k : Sak) (at : ℕ) (g : GoodSak k) (s : Stands f (sak_
 
 -- ---- a set that the frame may have: the walk passes it, and knows where it stands
 
-module _ (f : List ℕ) (t own len : ℕ) (body : List ℕ) (at stop : ℕ) (p : Places) (after : Spot → Places)
+pub walk_none : (f : List ℕ) (at stop : ℕ) (p q : Places) → q ≡ p → walk_from f stop at p ≡ walk_from f stop (at + 0) q
+walk_none f at stop p q e = ap₂ (λ (x : ℕ) (r : Places). walk_from f stop x r) (sym (add-zero at)) (sym e)
+
+module _ (f : List ℕ) (t own len : ℕ) (body : List ℕ) (at stop : ℕ) (p : Places) (after : Option Spot → Places)
     (kind : t ≡ 255 → ⊥) (few : len < 4096) (four : len % 4 ≡ 0) (long : length body ≡ len) (end : stop ≤ length f)
-    (lengths : allowed t len ≡ true) (once : holds p t ≡ false)
-    (absent : after absent_spot ≡ p) (present : (x n : ℕ) → places_with p t x n ≡ after (spot_at x n)) where
-  pub walk-part : (b : Bool) → Stands f (cond b (set_header t own len ++ body) []) at → at + length (cond b (set_header t own len ++ body) []) ≤ stop
-      → (b ≡ true → unnumbered t len (be_at f (at + 4) 4) ≡ false)
-      → walk_from f stop at p ≡ walk_from f stop (at + length (cond b (set_header t own len ++ body) [])) (after (spot_if b at len))
-  walk-part true s fit numbered =
+    (lengths : allowed t len ≡ true) (once : holds p t ≡ false) (present : (x n : ℕ) → places_with p t x n ≡ after (spot_at x n)) where
+  pub walk-there : Stands f (set_header t own len ++ body) at → at + length (set_header t own len ++ body) ≤ stop → unnumbered t len (be_at f (at + 4) 4) ≡ false
+      → walk_from f stop at p ≡ walk_from f stop (at + length (set_header t own len ++ body)) (after (spot_at at len))
+  walk-there s fit numbered =
       let w : padded_of len ≡ len = omega arith in
       let n : length (set_header t own len ++ body) ≡ 4 + padded_of len = length-append (set_header t own len) body ∙ omega arith in
       let room : at + (4 + padded_of len) ≤ stop = omega arith in
-      walk-over f t own len body at s stop p kind few end room lengths (numbered refl) once
+      walk-over f t own len body at s stop p kind few end room lengths numbered once
       ∙ ap₂ (λ (x : ℕ) (q : Places). walk_from f stop (at + x) q) (sym n) (present at len)
-  walk-part false s fit numbered = ap₂ (λ (x : ℕ) (q : Places). walk_from f stop x q) (sym (add-zero at)) (sym absent)

@@ -1,5 +1,5 @@
 -- A frame's value in range, and what reading it should give.
-use Rattle.std.specs.Prelude.{ℕ, ◌+◌, ◌*◌, ◌^◌, ◌≤◌, ◌<◌, ◌≡◌, List, [], ◌∷◌, Bool, true, false, not, length, eqb}
+use Rattle.std.specs.Prelude.{ℕ, ◌+◌, ◌*◌, ◌^◌, ◌≤◌, ◌<◌, ◌≡◌, List, [], ◌∷◌, Bool, true, false, not, length, eqb, Option, Some, None, IfSome, is_some}
 use Rattle.base_facts.specs.Facts.{padded_of}
 use Rattle.base_mi.specs.Entry.{entries_of}
 use Rattle.base_mi.specs.declared.entry.Entry.{Entry}
@@ -7,11 +7,13 @@ use Rattle.base_mi.specs.Fitting.{Fitting}
 use Rattle.base_facts.specs.Numbers.{agility}
 use Rattle.frame.specs.Basic.{icv_place}
 use Rattle.frame.specs.declared.Basic.{Basic}
-use Rattle.frame_places.specs.Once.{absent_spot, spot_at}
+use Rattle.frame_places.specs.Once.{spot_at}
 use Rattle.frame_places.specs.declared.Spot.{Spot}
 use Rattle.frame_places.specs.declared.Places.{Places}
 use Rattle.frame_sets.specs.declared.kinds.KeyUse.{KeyUse}
+use Rattle.frame_sets.specs.declared.kinds.SakUse.{SakUse}
 use Rattle.frame_sets.specs.declared.kinds.SakHeader.{SakHeader}
+use Rattle.frame_walk.specs.List.{list_at}
 use Rattle.frame_writer.specs.Frame.{list_set, use_part}
 use Rattle.frame_writer.specs.declared.Sender.{Sender}
 use Rattle.frame_writer.specs.declared.Sak.{Sak}
@@ -37,6 +39,10 @@ pub record GoodKey (k : KeyUse) : Type 0 where
   pub kn : k.kn < 2 ^ 32
   pub pn : k.pn < 2 ^ 32
 
+pub record GoodUse (u : SakUse) : Type 0 where
+  pub latest : GoodKey u.latest
+  pub old : GoodKey u.old
+
 pub record GoodSak (k : Sak) : Type 0 where
   pub an : k.an < 4
   pub confidentiality : k.confidentiality < 4
@@ -48,11 +54,10 @@ pub record Ranged (m : Mkpdu) : Type 0 where
   pub sender : GoodSender m.sender
   pub live : GoodEntries (entries_of m.live)
   pub potential : GoodEntries (entries_of m.potential)
-  pub latest : GoodKey m.usage.latest
-  pub old : GoodKey m.usage.old
-  pub sak : GoodSak m.sak
+  pub usage : IfSome m.usage GoodUse
+  pub sak : IfSome m.sak GoodSak
   -- "The key number (KN) is not zero"
-  pub numbered : m.distributed ≡ true → 0 < m.sak.kn
+  pub numbered : IfSome m.sak (λ k. 0 < k.kn)
 
 -- the Basic set of a frame with a body of b octets
 abbrev pub basic_written : Sender → ℕ → Basic
@@ -83,13 +88,13 @@ abbrev pub use_place : Mkpdu → ℕ
 use_place m = potential_place m + length (list_set 2 (entries_of m.potential))
 
 abbrev pub sak_place : Mkpdu → ℕ
-sak_place m = use_place m + length (use_part m.used m.usage)
+sak_place m = use_place m + length (use_part m.usage)
 
-abbrev pub spot_if : Bool → ℕ → ℕ → Spot
+abbrev pub spot_if : Bool → ℕ → ℕ → Option Spot
 spot_if true place len = spot_at place len
-spot_if false place len = absent_spot
+spot_if false place len = None
 
-abbrev pub list_spot : List Entry → ℕ → Spot
+abbrev pub list_spot : List Entry → ℕ → Option Spot
 list_spot es place = spot_if (not (eqb (length es) 0)) place (length es * 16)
 
 -- where each known set stands
@@ -98,10 +103,15 @@ places_written m =
     record {
       live = list_spot (entries_of m.live) (live_place m);
       potential = list_spot (entries_of m.potential) (potential_place m);
-      sak_use = spot_if m.used (use_place m) 40;
-      sak = spot_if m.distributed (sak_place m) 28;
+      sak_use = spot_if (is_some m.usage) (use_place m) 40;
+      sak = spot_if (is_some m.sak) (sak_place m) 28;
     }
 
 -- the Distributed SAK, its wrapped key's place and length
 abbrev pub sak_written : Sak → ℕ → SakHeader
 sak_written k at = record { an = k.an; confidentiality = k.confidentiality; kn = k.kn; suite = 0; place = at + 8; len = 24 }
+
+-- the entries of the list that stands there, none where no list stands
+abbrev pub listed : List ℕ → Option Spot → List Entry
+listed s None = []
+listed s (Some x) = list_at s x.place x.len

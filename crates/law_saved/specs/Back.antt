@@ -24,7 +24,7 @@ use Rattle.image_layout.proofs.Back.{PlacedFrom, laid-placed, laid-back}
 use Rattle.image_own.specs.Own.{named_octets, times_octets, kept_octets, own_octets, own_at, own_clean}
 use Rattle.image_peer.specs.Peer.{peers_octets, peer_at, peers_at, peers_clean}
 use Rattle.image_key.specs.Key.{key_octets, slot_octets, key_at, slot_at, slot_clean}
-use Rattle.image_peer.proofs.Laws.{length-peers_at}
+use Rattle.image_peer.proofs.Laws.{length_peers_at}
 use Rattle.law_reread.specs.Fit.{FitPeer, FitPeers, FitKey, FitOwn}
 use Rattle.law_reread.specs.Cut.{cut, glue}
 use Rattle.law_reread.specs.OwnArgument.{own_back}
@@ -165,7 +165,7 @@ module _ (s : List ℕ) (o : Octets s) (w : well_formed s ≡ true) where
   -- ---- (c) it is well formed
 
   few : length (peers_at s (offset_at s 1) (min (records_at s 1) 16)) ≤ 16
-  few = omega (arith, length-peers_at s (offset_at s 1) (min (records_at s 1) 16))
+  few = omega (arith, length_peers_at s (offset_at s 1) (min (records_at s 1) 16))
 
   listed_back : entries told.table ≡ peers_at s (offset_at s 1) (min (records_at s 1) 16)
   unfolding told_by
@@ -225,7 +225,7 @@ module _ (s : List ℕ) (o : Octets s) (w : well_formed s ≡ true) where
   peers-part =
       let n : min (records_at s 1) 16 ≡ records_at s 1 = omega (arith, sixteen) in
       let all : entries told.table ≡ peers_at s (offset_at s 1) (records_at s 1) = listed_back ∙ ap (peers_at s (offset_at s 1)) n in
-      let many = ap length all ∙ length-peers_at s (offset_at s 1) (records_at s 1) in
+      let many = ap length all ∙ length_peers_at s (offset_at s 1) (records_at s 1) in
       let body = ap peers_octets all ∙ peers-back s (offset_at s 1) (records_at s 1) o (omega (arith, placed.2.1, placed.2.2.2)) peers-clean ∙ ap (λ (at : ℕ). cut s at (records_at s 1 * 44)) placed.2.1 in
       λ i. record { records = many i; body = body i }
 

@@ -7,7 +7,6 @@ use Rattle.participant.specs.Call.{done_of, refused_of}
 use Rattle.call_creation.specs.Create.{empty_participant}
 use Rattle.participant.specs.declared.Participant.{Participant}
 use Rattle.participant.specs.declared.call.Called.{Called}
-use Rattle.participant.specs.declared.call.Answer.TheVariants.{Done, Refused}
 use Rattle.image.specs.Image.{image_of}
 use Rattle.image_reading.specs.Read.{told_by, well_formed, read_of}
 use Rattle.law_saved.specs.Told as told
@@ -27,8 +26,8 @@ refuses s e = rw e
 accepted : (s : List ℕ) (p : Participant) → read_of s ≡ done_of p → (well_formed s ≡ true) × (told_by s ≡ p)
 accepted s p e =
     by_cases (well_formed s)
-    (λ w. (w, ap (λ (r : Called). r.participant) (sym (accepts s w) ∙ e)))
-    (λ w. let k : Refused 16 ≡ Done = ap (λ (r : Called). r.answer) (sym (refuses s w) ∙ e) in never (cc))
+    (λ w. (w, ap (λ (r : Called (Unit {0})). r.participant) (sym (accepts s w) ∙ e)))
+    (λ w. let k = ap (λ (r : Called (Unit {0})). r.answer) (sym (refuses s w) ∙ e) in never (cc))
 
 pub reads-back : ReadsBack
 reads-back p w = told.reads-back p w
@@ -46,7 +45,7 @@ pub refused-exactly : RefusedExactly
 refused-exactly s o = (
   (λ r i.
       let e : read_of s ≡ done_of i.participant = ap read_of (sym i.octets) ∙ reads-back i.participant i.formed in
-      let k : Done ≡ Refused 16 = ap (λ (x : Called). x.answer) (sym e ∙ r) in
+      let k = ap (λ (x : Called (Unit {0})). x.answer) (sym e ∙ r) in
       never (cc)),
   (λ n. by_cases (well_formed s) (λ w. absurd (n (image-of s o w))) (refuses s)),
 )

@@ -59,7 +59,7 @@ unfolding image_of
 short p w =
     let a = bit-lt p.latest.held in
     let b = bit-lt p.old.held in
-    omega (arith, length-image p (length (entries p.table)) w.own.ckn w.own.wrapped refl, few p)
+    omega (arith, length-image p w.own.ckn w.own.wrapped, few p)
 
 pub laid : (p : Participant) → WellFormed p → laid_out (image_of p) sizes ≡ true
 unfolding image_of

@@ -1,6 +1,6 @@
 -- The message of a participant whose fields fit is in range.
-use Rattle.std.specs.Prelude.{ℕ, ◌^◌, ◌<◌, ◌≡◌, Bool, true, false, cond, ◌&&◌, List, [], ◌∷◌, map}
-use Rattle.std.proofs.Common.{lit<}
+use Rattle.std.specs.Prelude.{ℕ, ◌^◌, ◌<◌, ◌≡◌, Bool, true, false, cond, ◌&&◌, List, [], ◌∷◌, map, IfSome}
+use Rattle.std.proofs.Common.{lit<, refl}
 use Rattle.base_mi.specs.Mi.{mi_same}
 use Rattle.law_lists.specs.Lists.{those}
 use Rattle.law_lists.proofs.Laws.{first-of}
@@ -11,8 +11,8 @@ use Rattle.table_counts.proofs.Listing.{live-listed, potential-listed}
 use Rattle.participant.specs.declared.Slot.{Slot}
 use Rattle.participant.specs.declared.Participant.{Participant}
 use Rattle.participant.specs.Keys.{of_member}
-use Rattle.call_send.specs.Message.{key_use_of, hands_out, sender_of, sak_of, message_of}
-use Rattle.law_round.specs.Ranged.{GoodEntries, GoodKey, Ranged}
+use Rattle.call_send.specs.Message.{key_use_of, hands_out, sender_of, sak_of, said_if, message_of}
+use Rattle.law_round.specs.Ranged.{GoodEntries, GoodKey, GoodUse, GoodSak, Ranged}
 use Rattle.law_sends.specs.Sendable.{GoodPeers, GoodSlot, Sendable}
 
 good-those : (f : Peer → Bool) (l : List Peer) → GoodPeers l → GoodEntries (map entry_of (those f l))
@@ -37,6 +37,11 @@ hands-held : (p : Participant) → hands_out p ≡ true → p.latest.held ≡ tr
 unfolding hands_out of_member
 hands-held p e = first-of p.latest.held _ (first-of (p.latest.held && mi_same p.latest.key.mi p.mi) _ e)
 
+-- what a frame has if it has it
+if-said : {A : Type 0} (b : Bool) (x : A) (P : A → Type 0) → (b ≡ true → P x) → IfSome (said_if b x) P
+if-said true x P h = h refl
+if-said false x P h = tt
+
 pub message-ranged : (p : Participant) (latest_pn old_pn : ℕ) → latest_pn < 2 ^ 32 → old_pn < 2 ^ 32 → Sendable p → Ranged (message_of p latest_pn old_pn)
 unfolding message_of sender_of sak_of
 message-ranged p l o hl ho g =
@@ -52,13 +57,7 @@ message-ranged p l o hl ho g =
       };
       live = rw (live-listed p.table) (good-those _ (entries p.table) g.peers);
       potential = rw (potential-listed p.table) (good-those _ (entries p.table) g.peers);
-      latest = good-use p.latest l hl g.latest;
-      old = good-use p.old o ho g.old;
-      sak = record {
-        an = g.latest.an;
-        confidentiality = g.latest.confidentiality;
-        kn = g.latest.kn;
-        wrapped = g.wrapped;
-      };
-      numbered = λ e. g.latest.some (hands-held p e);
+      usage = if-said p.latest.held _ GoodUse (λ e. record { latest = good-use p.latest l hl g.latest; old = good-use p.old o ho g.old });
+      sak = if-said (hands_out p) (sak_of p) GoodSak (λ e. record { an = g.latest.an; confidentiality = g.latest.confidentiality; kn = g.latest.kn; wrapped = g.wrapped });
+      numbered = if-said (hands_out p) (sak_of p) (λ k. 0 < k.kn) (λ e. g.latest.some (hands-held p e));
     }

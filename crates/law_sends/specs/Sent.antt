@@ -1,14 +1,11 @@
 -- Reading what a send wrote gives back our identifier, MN + 1, our Live and Potential peers with their numbers, and the keys' fields.
 -- Proved in SentArgument.
-use Rattle.std.specs.Prelude.{ℕ, ◌+◌, ◌^◌, ◌<◌, ◌≡◌, true, false, List, ◌++◌, map}
+use Rattle.std.specs.Prelude.{ℕ, ◌+◌, ◌^◌, ◌<◌, ◌≡◌, false, List, ◌++◌, map, Ok, IfSome, is_some}
 use Rattle.base_octets.specs.Run.{part_of}
 use Rattle.frame.specs.Basic.{basic_of}
 use Rattle.frame.specs.Ours.{fact6, fact7}
-use Rattle.frame.specs.declared.BasicRead.TheVariants.{Read}
 use Rattle.frame_places.specs.declared.Places.{Places}
 use Rattle.frame_sets.specs.Kinds.{sak_use_at, sak_at}
-use Rattle.frame_walk.specs.List.{list_at}
-use Rattle.frame_walk.specs.declared.Walked.TheVariants.{End}
 use Rattle.law_lists.specs.Lists.{those}
 use Rattle.table.specs.Table.{entries}
 use Rattle.table_lookup.specs.Look.{is_live, is_potential}
@@ -19,12 +16,13 @@ use Rattle.participant.specs.declared.Participant.{Participant}
 use Rattle.call_judge.specs.Judge.{basic_in, walk_in}
 use Rattle.call_send.specs.Message.{server_flag, hands_out, key_use_of, sender_of}
 use Rattle.call_send.specs.Send.{frame_at}
+use Rattle.law_round.specs.Ranged.{listed}
 use Rattle.law_sends.specs.Sendable.{Sendable}
 
 -- The octets tell of the participant p as it sends, with the two lowest PNs.
 pub record Tells (p : Participant) (latest_pn old_pn : ℕ) (octets : List ℕ) : Type 0 where
   -- facts 2 to 5 don't hold, nor 6 and 7 for one who has the same CKN
-  pub read : basic_of octets ≡ Read (basic_in octets)
+  pub read : basic_of octets ≡ Ok (basic_in octets)
   pub ckn : fact6 octets (basic_in octets) (ckn_of (sender_of p)) ≡ false
   pub agility : fact7 (basic_in octets) ≡ false
   pub priority : (basic_in octets).priority ≡ p.priority
@@ -36,19 +34,18 @@ pub record Tells (p : Participant) (latest_pn old_pn : ℕ) (octets : List ℕ) 
   pub mn : (basic_in octets).mn ≡ p.mn + 1
   -- the walk over the further sets comes to its end
   pub places : Places
-  pub walked : walk_in octets ≡ End places
+  pub walked : walk_in octets ≡ Ok places
   -- the peers with their numbers, in table order
-  pub live : list_at octets places.live.place places.live.len ≡ map entry_of (those is_live (entries p.table))
-  pub potential : list_at octets places.potential.place places.potential.len ≡ map entry_of (those is_potential (entries p.table))
+  pub live : listed octets places.live ≡ map entry_of (those is_live (entries p.table))
+  pub potential : listed octets places.potential ≡ map entry_of (those is_potential (entries p.table))
   -- "SAK Use if a latest key exists"
-  pub used : places.sak_use.present ≡ p.latest.held
-  pub keys : p.latest.held ≡ true → sak_use_at octets places.sak_use.place ≡ record { latest = key_use_of p.latest latest_pn; old = key_use_of p.old old_pn }
+  pub used : is_some places.sak_use ≡ p.latest.held
+  pub keys : IfSome places.sak_use (λ x. sak_use_at octets x.place ≡ record { latest = key_use_of p.latest latest_pn; old = key_use_of p.old old_pn })
   -- "Distributed SAK of 28 if .."
-  pub distributed : places.sak.present ≡ hands_out p
-  pub sak : hands_out p ≡ true
-      → sak_at octets places.sak.place places.sak.len
-      ≡ record { an = p.latest.key.an; confidentiality = p.latest.key.confidentiality; kn = p.latest.key.kn; suite = 0; place = places.sak.place + 8; len = 24 }
-  pub wrapped : hands_out p ≡ true → part_of octets (places.sak.place + 8) 24 ≡ p.wrapped
+  pub distributed : is_some places.sak ≡ hands_out p
+  pub sak : IfSome places.sak (λ x. sak_at octets x.place x.len
+      ≡ record { an = p.latest.key.an; confidentiality = p.latest.key.confidentiality; kn = p.latest.key.kn; suite = 0; place = x.place + 8; len = 24 })
+  pub wrapped : IfSome places.sak (λ x. part_of octets (x.place + 8) 24 ≡ p.wrapped)
 
 -- Any send of a participant that fits, whatever follows the frame in the lent octets, tells of it as expiry makes it at the call's time.
 abbrev pub SendsReadBack : Type 0

@@ -27,9 +27,3 @@ base-mi·put-mi·asks-nothing κs a w = refl
 
 pub base-mi·put-mi : OneSeen base_mi.put_mi.Kinds.ps base_mi.put_mi.Kinds.r base_mi.put_mi.Reads.Learnt (λ κs z e. e.0.now)
 base-mi·put-mi κs a z z' e e' h h' = same h h'
-
-pub base-mi·same-mi·asks-nothing : AsksNothing contracts.same_mi.signature base_mi.same_mi.Reads.requires
-base-mi·same-mi·asks-nothing κs a w = refl
-
-pub base-mi·same-mi : OneAnswer base_mi.same_mi.Kinds.ps base_mi.same_mi.Kinds.r base_mi.same_mi.Reads.Learnt
-base-mi·same-mi κs a z z' e e' h h' = same h h'

@@ -34,6 +34,12 @@ base-octets·put-octet·asks-nothing κs a w = refl
 pub base-octets·put-octet : OneSeen base_octets.put_octet.Kinds.ps base_octets.put_octet.Kinds.r base_octets.put_octet.Reads.Learnt (λ κs z e. e.0.now)
 base-octets·put-octet κs a z z' e e' h h' = same h h'
 
+pub base-octets·put-all·asks-nothing : AsksNothing contracts.put_all.signature base_octets.put_all.Reads.requires
+base-octets·put-all·asks-nothing κs a w = refl
+
+pub base-octets·put-all : OneSeen base_octets.put_all.Kinds.ps base_octets.put_all.Kinds.r base_octets.put_all.Reads.Learnt (λ κs z e. e.0.now)
+base-octets·put-all κs a z z' e e' h h' = same h h'
+
 pub base-octets·put-u16·asks-nothing : AsksNothing contracts.put_u16.signature base_octets.put_u16.Reads.requires
 base-octets·put-u16·asks-nothing κs a w = refl
 

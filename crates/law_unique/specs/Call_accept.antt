@@ -4,18 +4,6 @@ use Rattle.call_accept.proofs as call_accept
 use Rattle.call_accept.specs.contracts as contracts
 use Rattle.law_unique.specs.Law.{AsksNothing, OneAnswer, same}
 
-pub call-accept·refused·asks-nothing : AsksNothing contracts.refused.signature call_accept.refused.Reads.requires
-call-accept·refused·asks-nothing κs a w = refl
-
-pub call-accept·refused : OneAnswer call_accept.refused.Kinds.ps call_accept.refused.Kinds.r call_accept.refused.Reads.Learnt
-call-accept·refused κs a z z' e e' h h' = same h h'
-
-pub call-accept·accepted·asks-nothing : AsksNothing contracts.accepted.signature call_accept.accepted.Reads.requires
-call-accept·accepted·asks-nothing κs a w = refl
-
-pub call-accept·accepted : OneAnswer call_accept.accepted.Kinds.ps call_accept.accepted.Kinds.r call_accept.accepted.Reads.Learnt
-call-accept·accepted κs a z z' e e' h h' = same h h'
-
 pub call-accept·heard-of·asks-nothing : AsksNothing contracts.heard_of.signature call_accept.heard_of.Reads.requires
 call-accept·heard-of·asks-nothing κs a w = refl
 

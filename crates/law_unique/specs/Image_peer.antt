@@ -13,7 +13,7 @@ image-peer·put-peers κs a z z' e e' h h' = same h h'
 pub image-peer·peers-at·asks-nothing : AsksNothing contracts.peers_at.signature image_peer.peers_at.Reads.requires
 image-peer·peers-at·asks-nothing κs a w = refl
 
-pub image-peer·peers-at : OneAnswer image_peer.peers_at.Kinds.ps image_peer.peers_at.Kinds.r image_peer.peers_at.Reads.Learnt
+pub image-peer·peers-at : OneSeen image_peer.peers_at.Kinds.ps image_peer.peers_at.Kinds.r image_peer.peers_at.Reads.Learnt (λ κs z e. e.0.now)
 image-peer·peers-at κs a z z' e e' h h' = same h h'
 
 pub image-peer·peers-clean·asks-nothing : AsksNothing contracts.peers_clean.signature image_peer.peers_clean.Reads.requires

@@ -1,9 +1,13 @@
 -- "Any pair of answers allowed by one statement is shown to be the same answer."
-use Rattle.std.specs.Prelude.{ℕ, ◌≡◌, List}
+use Rattle.std.specs.Prelude.{ℕ, ◌*◌, ◌^◌, ◌<◌, ◌≡◌, List}
 use Rattle.std.proofs.Common.{sym, ◌∙◌}
-use base.Logic.{emp, ent}
+use base.Logic.{emp, ent, sep}
+use contract.BorrowLft.{◌⊑◌}
+use contract.Fact.{fact as life}
 use contract.Lifetimes.{Lfts}
+use base.Fml.{Lft}
 use contract.Monad.{fact, fact_i, fact_use}
+use denote.RattleType.{RattleType}
 use denote.Signature.{Signature}
 use denote.Triple.Clauses.{Ended, AtExit}
 use borrow.Fn.Kinds.{ParamKind, ResultKind, Out, Dens, res_t, ended_of}
@@ -25,6 +29,19 @@ module _ {n : ℕ} (ps : List (ParamKind n)) (r : ResultKind n) (Says : Out n ps
 module _ (S : Signature) (requires : (κs : Lfts S.lifetimes) → ArgsD S κs → Unit {0} → (w : World) → Pr w) where
   abbrev pub AsksNothing : Type 2
   AsksNothing = (κs : Lfts S.lifetimes) (a : ArgsD S κs) (w : World) → requires κs a tt w ≡ emp w.𝓤
+
+-- One with a type parameter asks what the language does of each such call, that the type outlives it, and nothing else; `of_call` is
+-- the call's own lifetime among its lifetimes.
+module _ (T : RattleType) (S : Signature) (requires : (κs : Lfts S.lifetimes) → ArgsD S κs → Unit {0} → (w : World) → Pr w) (of_call : Lfts S.lifetimes → Lft) where
+  abbrev pub AsksLifeAlone : Type 2
+  AsksLifeAlone = (κs : Lfts S.lifetimes) (a : ArgsD S κs) (w : World) → requires κs a tt w ≡ sep w.𝓤 (life w.𝓤 (of_call κs ⊑ T.lives)) (emp w.𝓤)
+
+  -- One with a number for a parameter asks what the language does: that an array of so many octets fits the memory.
+  module _ (octets : ℕ) where
+    abbrev pub AsksRoomAlone : Type 2
+    AsksRoomAlone =
+        (κs : Lfts S.lifetimes) (a : ArgsD S κs) (w : World)
+        → requires κs a tt w ≡ sep w.𝓤 (life w.𝓤 (of_call κs ⊑ T.lives)) (sep w.𝓤 (life w.𝓤 (octets * 1 < 2 ^ 63)) (emp w.𝓤))
 
 -- The same of an `ensures` itself, in every model of the logic: whatever grants it of two answers grants that what is seen of them is
 -- the same. It is cited of the functions that take or give a held reference.

@@ -1,20 +1,22 @@
 -- The public functions of `participant`. Written by tools/unique.
+use denote.RattleType.{RattleType}
+use denote.Param.Laws.{Laws}
 use Rattle.std.specs.Prelude.{refl}
 use Rattle.participant.proofs as participant
 use Rattle.participant.specs.contracts as contracts
-use Rattle.law_unique.specs.Law.{AsksNothing, OneAnswer, same}
+use Rattle.law_unique.specs.Law.{AsksLifeAlone, AsksNothing, OneAnswer, same}
 
-pub participant·call·done·asks-nothing : AsksNothing contracts.call.done.signature participant.call.done.Reads.requires
-participant·call·done·asks-nothing κs a w = refl
+pub participant·call·accepted·asks-nothing : (T : RattleType) (L : Laws T) → AsksLifeAlone T (contracts.call.accepted.signature T) (participant.call.accepted.Reads.requires T L) (λ κs. κs.0)
+participant·call·accepted·asks-nothing T L κs a w = refl
 
-pub participant·call·done : OneAnswer participant.call.done.Kinds.ps participant.call.done.Kinds.r participant.call.done.Reads.Learnt
-participant·call·done κs a z z' e e' h h' = same h h'
+pub participant·call·accepted : (T : RattleType) (L : Laws T) → OneAnswer (participant.call.accepted.Kinds.ps T L) (participant.call.accepted.Kinds.r T L) (participant.call.accepted.Reads.Learnt T L)
+participant·call·accepted T L κs a z z' e e' h h' = same h h'
 
-pub participant·call·refused·asks-nothing : AsksNothing contracts.call.refused.signature participant.call.refused.Reads.requires
-participant·call·refused·asks-nothing κs a w = refl
+pub participant·call·refused·asks-nothing : (T : RattleType) (L : Laws T) → AsksLifeAlone T (contracts.call.refused.signature T) (participant.call.refused.Reads.requires T L) (λ κs. κs.0)
+participant·call·refused·asks-nothing T L κs a w = refl
 
-pub participant·call·refused : OneAnswer participant.call.refused.Kinds.ps participant.call.refused.Kinds.r participant.call.refused.Reads.Learnt
-participant·call·refused κs a z z' e e' h h' = same h h'
+pub participant·call·refused : (T : RattleType) (L : Laws T) → OneAnswer (participant.call.refused.Kinds.ps T L) (participant.call.refused.Kinds.r T L) (participant.call.refused.Reads.Learnt T L)
+participant·call·refused T L κs a z z' e e' h h' = same h h'
 
 pub participant·call·aged-to·asks-nothing : AsksNothing contracts.call.aged_to.signature participant.call.aged_to.Reads.requires
 participant·call·aged-to·asks-nothing κs a w = refl

@@ -2,7 +2,7 @@
 use Rattle.std.specs.Prelude.{refl}
 use Rattle.table_expiry.proofs as table_expiry
 use Rattle.table_expiry.specs.contracts as contracts
-use Rattle.law_unique.specs.Law.{AsksNothing, OneAnswer, same}
+use Rattle.law_unique.specs.Law.{AsksNothing, OneAnswer, OneSeen, same}
 
 pub table-expiry·fresh·asks-nothing : AsksNothing contracts.fresh.signature table_expiry.fresh.Reads.requires
 table-expiry·fresh·asks-nothing κs a w = refl
@@ -25,5 +25,5 @@ table-expiry·still-from κs a z z' e e' h h' = same h h'
 pub table-expiry·expire·asks-nothing : AsksNothing contracts.expire.signature table_expiry.expire.Reads.requires
 table-expiry·expire·asks-nothing κs a w = refl
 
-pub table-expiry·expire : OneAnswer table_expiry.expire.Kinds.ps table_expiry.expire.Kinds.r table_expiry.expire.Reads.Learnt
+pub table-expiry·expire : OneSeen table_expiry.expire.Kinds.ps table_expiry.expire.Kinds.r table_expiry.expire.Reads.Learnt (λ κs z e. e.0.now)
 table-expiry·expire κs a z z' e e' h h' = same h h'

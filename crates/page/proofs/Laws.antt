@@ -1,14 +1,14 @@
 -- How long a number's text is.
 use Prim.Native.Nat.{ℕ, zero, suc, ◌-◌, ◌*◌, ◌/◌, ◌%◌, ◌^◌, ◌≤◌, ◌<◌, min, max}
 use mathlib.Core.Path.{◌≡◌, refl, ap, ◌∙◌}
-use mathlib.Core.Bool.{Bool, true, false, cond}
 use mathlib.Core.List.{[], ◌∷◌}
 use native.Mathlib.Numerals.{unary_clauses}
 use native.Mathlib.Nat.{pow-suc, pow-le-pow_right}
 use native.Mathlib.Omega.{arith}
 use lib.ListN.{length, length-append}
-use lib.Dec.{ltb, lit<}
-use borrow.Author.Tests.{lt-ltb, ltb-true, ltb-false}
+use lib.Dec.{lit<}
+use Rattle.std.proofs.lemmas.Bool.Decides.{nat_tests}
+use borrow.Author.Tests.{lt-ltb}
 use Rattle.io.specs.Digits.{last_digits, hex_digit_ascii, IsDigitCount}
 use Rattle.base_mi.specs.declared.Mi.{Mi}
 use Rattle.page.specs.Text.{places_up_to, decimal_of, hex_of}
@@ -41,13 +41,11 @@ fewest-tenth n (suc k) (ge, fits, more) big =
 pub fewest-places : (m n k : ℕ) → IsDigitCount 10 1 n k → n < 10 ^ suc m → k ≡ places_up_to (suc m) n
 fewest-places m n zero (ge, fits, more) lt = absurd (omega arith)
 fewest-places zero n (suc k) f lt = rw (lt-ltb n 10 lt) (fewest-least 10 1 n (suc k) (lit< tt) f lt)
-fewest-places (suc m) n (suc k) f lt = go (ltb n 10) refl (fewest-places m (n / 10) k)
-  where
-    go : (t : Bool) → ltb n 10 ≡ t → (IsDigitCount 10 1 (n / 10) k → n / 10 < 10 ^ suc m → k ≡ places_up_to (suc m) (n / 10)) → suc k ≡ cond t 1 (suc (places_up_to (suc m) (n / 10)))
-    go true e next = fewest-least 10 1 n (suc k) (lit< tt) f (ltb-true n 10 e)
-    go false e next =
-        let l : n < 10 ^ suc m * 10 = rw pow-suc at lt in
-        ap suc (next (fewest-tenth n k f (ltb-false n 10 e)) (omega arith))
+fewest-places (suc m) n (suc k) f lt =
+    let l : n < 10 ^ suc m * 10 = rw pow-suc at lt in
+    let one : n < 10 → suc k ≡ 1 = fewest-least 10 1 n (suc k) (lit< tt) f in
+    let more : 10 ≤ n → k ≡ places_up_to (suc m) (n / 10) = λ big. fewest-places m (n / 10) k (fewest-tenth n k f big) (omega arith) in
+    grind (arith, nat_tests)
 
 -- a number of 64 bits is its digits, as many as it needs
 pub decimal-digits : (n k : ℕ) → n < 2 ^ 64 → IsDigitCount 10 1 n k → last_digits 10 k n ≡ decimal_of n
@@ -57,14 +55,9 @@ decimal-digits n k lt f = ap (λ (j : ℕ). last_digits 10 j n) (fewest-places 1
 -- a number below 10 ^ (m + 1) has at most m + 1 digits
 places-le : (most m n : ℕ) → n < 10 ^ suc m → places_up_to most n ≤ suc m
 places-le zero m n lt = omega arith
-places-le (suc most) m n lt = go m lt (ltb n 10) refl (λ k. places-le most k (n / 10))
-  where
-    go : (m : ℕ) → n < 10 ^ suc m → (t : Bool) → ltb n 10 ≡ t → ((k : ℕ) → n / 10 < 10 ^ suc k → places_up_to most (n / 10) ≤ suc k) → cond t 1 (suc (places_up_to most (n / 10))) ≤ suc m
-    go m lt true e next = omega arith
-    go zero lt false e next = absurd (omega (arith, ltb-false n 10 e))
-    go (suc m) lt false e next =
-        let l : n < 10 ^ suc m * 10 = rw pow-suc at lt in
-        omega (arith, next m (omega arith))
+places-le (suc most) zero n lt = grind (arith, nat_tests)
+places-le (suc most) (suc m) n lt = let h = rw pow-suc at lt in
+    grind (arith, nat_tests, places-le most m (n / 10) (omega arith))
 
 pub decimal-below : (m n : ℕ) → n < 10 ^ suc m → length (decimal_of n) ≤ suc m
 unfolding decimal_of
@@ -73,11 +66,7 @@ decimal-below m n lt = omega (arith, length_digits 10 (places_up_to 20 n) n, pla
 -- and no number has more than 20
 places-most : (most n : ℕ) → places_up_to most n ≤ most
 places-most zero n = omega arith
-places-most (suc most) n = go (ltb n 10) (places-most most (n / 10))
-  where
-    go : (t : Bool) → places_up_to most (n / 10) ≤ most → cond t 1 (suc (places_up_to most (n / 10))) ≤ suc most
-    go true next = omega arith
-    go false next = omega arith
+places-most (suc most) n = grind (arith, nat_tests, places-most most (n / 10))
 
 pub decimal-le : (n : ℕ) → length (decimal_of n) ≤ 20
 unfolding decimal_of

@@ -1,4 +1,4 @@
 -- The laws of the lines.
 pub mod Laws
-pub mod Stores
+pub mod Said
 pub mod Room

@@ -1,23 +1,27 @@
--- The line has line_room for every text: nothing is cut off.
+-- The line has room for every status: nothing is left out.
 use Prim.Native.Nat.{ℕ, ◌+◌, ◌^◌, ◌≤◌, ◌<◌}
-use mathlib.Core.Path.{◌≡◌, ap, sym, ◌∙◌}
-use mathlib.Core.List.{List, ◌++◌}
+use mathlib.Core.Path.{◌≡◌, sym}
+use mathlib.Core.List.{◌++◌}
 use mathlib.Core.Bool.{Bool, true, false}
-use native.Mathlib.Nat.{zero-add}
-use borrow.Author.Tests.{lt-ltb}
-use lib.Seq.{sets}
-use Rattle.base_octets.proofs.Laws.{sets-append}
-use Rattle.page.specs.Text.{ascii, line_room, line_of, ended_of}
 use native.Mathlib.Omega.{arith}
-use lib.ListN.{length, length-append, replicate, set}
+use lib.ListN.{length, length-append}
 use Rattle.table_counts.specs.Counts.{live_count, potential_count}
 use Rattle.table_expiry.proofs.Aging.{at-most-16}
 use Rattle.table_counts.proofs.Listing.{live-potential}
+use Rattle.table_election.specs.declared.Server.{Server}
+use Rattle.table_election.specs.declared.Server.TheVariants.{Nobody, Ourselves, Elected}
 use Rattle.participant.specs.declared.Participant.{Participant}
 use Rattle.call_standing.specs.Standing.{server_of}
-use Rattle.page.specs.Status.{key_text, status_text}
-use Rattle.page.proofs.Laws.{decimal-below}
-use Rattle.page.proofs.Stores.{server-le}
+use Rattle.page.specs.Text.{ascii, line_of, ended_of}
+use Rattle.page.specs.Status.{server_text, key_text, status_text}
+use Rattle.page.proofs.Laws.{decimal-below, length-hex}
+use Rattle.page.proofs.Said.{said-append, line-said, ended-said}
+
+server-le : (s : Server) → length (server_text s) ≤ 24
+unfolding server_text
+server-le Nobody = omega arith
+server-le Ourselves = omega arith
+server-le (Elected m) = omega (arith, length-hex m)
 
 key-le : (held : Bool) (kn : ℕ) → kn < 2 ^ 32 → length (key_text held kn) ≤ 10
 unfolding key_text
@@ -41,12 +45,7 @@ status-le p mn kn =
 
 -- and its end
 pub line-whole : (p : Participant) → p.mn < 2 ^ 32 → p.latest.key.kn < 2 ^ 32 → ended_of (line_of (status_text p)) ≡ line_of (status_text p ++ ascii "\n")
-unfolding ended_of line_of
 line-whole p mn kn =
     let t = status_text p in
-    let z : List ℕ = replicate line_room 0 in
-    let short : length t < 96 = omega (arith, status-le p mn kn) in
-    let len : length t + 1 ≡ length (t ++ ascii "\n") = sym (length-append t (ascii "\n")) in
-    let text : set (sets z 0 t) (length t) 10 ≡ sets z 0 (t ++ ascii "\n") =
-    ap (λ (k : ℕ). set (sets z 0 t) k 10) (sym (zero-add (length t))) ∙ sym (sets-append z 0 t (ascii "\n")) in
-    rw (lt-ltb (length t) 96 short) (λ i. record { text = text i; len = len i })
+    let n = status-le p mn kn in
+    rw (ended-said, line-said t (omega arith), line-said (t ++ ascii "\n") (omega (arith, length-append t (ascii "\n")))) (sym (said-append _ t _))

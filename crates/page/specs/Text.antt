@@ -31,9 +31,18 @@ line_room = 96
 unfoldable pub line_of : List ℕ → Line
 line_of text = record { text = sets (replicate line_room 0) 0 text; len = length text }
 
+-- A line with one octet more, where there is room for it.
+abbrev pub pushed : Line → ℕ → Line
+pushed l x = cond (ltb l.len line_room) (record { text = set l.text l.len x; len = l.len + 1 }) l
+
+-- A line with more text, as much as there is room for.
+unfoldable pub said : Line → List ℕ → Line
+said l [] = l
+said l (x ∷ text) = said (pushed l x) text
+
 -- A line with its end, where there is line_room for it.
 unfoldable pub ended_of : Line → Line
-ended_of l = cond (ltb l.len line_room) (record { text = set l.text l.len 10; len = l.len + 1 }) l
+ended_of l = pushed l 10
 
 -- "a refusal prints `refused 16`"
 unfoldable pub refused_text : ℕ → List ℕ

@@ -6,18 +6,14 @@ ghost use Rattle.page_shown.specs.Show.{shown_of};
 
 use page::line;
 use page::line::Line;
-use participant::call::Answer;
 
+#[tactic(auto, unfolding(crate::specs::Show::shown_of))]
 pub fn show(image: &[u8]) -> Line
     ensures { result ≡ shown_of image.now }
 {
-    let r = image_reading::read(image);
-    let a = r.answer;
-    match a {
-        Answer::Done => {
-            let p = r.participant;
-            line::ended(page::status(p))
-        }
-        Answer::Refused(n) => line::refused(n),
+    let read = image_reading::read(image);
+    match read.answer {
+        Ok(()) => line::ended(page::status(read.participant)),
+        Err(why) => line::refused(why.number()),
     }
 }

@@ -1,19 +1,17 @@
 -- "Numbers of refusal", once for every call: a refusal's number is the first fact's that holds and it changes nothing; a call that is
 -- accepted has no fact that holds, and sets the clock.
-use Prim.Native.Nat.{ℕ, ◌≤◌}
-use mathlib.Core.Path.{◌≡◌, refl, ap, sym, ◌∙◌}
-use mathlib.Core.Bool.{Bool, true, false, not}
-use mathlib.Core.List.{List, [], ◌∷◌, ◌++◌}
-use native.Mathlib.Omega.{arith}
-use lib.Dec.{eqb}
+use Rattle.std.proofs.Common.{ℕ, ◌<◌, ◌≤◌, ◌≡◌, refl, ap, sym, ◌∙◌, List, [], ◌∷◌, ◌++◌, arith}
+use Rattle.std.specs.Prelude.{Bool, true, false, not, eqb, Ok, Err}
 use borrow.Author.Tests.{eq-eqb, ne_eqb, eqb-true, eqb-false, ltb-false, not-true}
 use Rattle.base_facts.specs.Facts.{first_of}
+use Rattle.base_facts.specs.Refusal.{number_of, refusal}
+use Rattle.base_facts.specs.declared.Refusal.{Refusal}
+use Rattle.base_facts.proofs.Laws.{refusal_numbered, number_refused, known, first_known}
 use Rattle.law_lists.proofs.Laws.{by_cases, never, clash, first-of, second-of}
 use Rattle.participant.specs.First.{NoneHolds, numbered, First}
 use Rattle.participant.specs.declared.Participant.{Participant}
 use Rattle.participant.specs.declared.call.Called.{Called}
-use Rattle.participant.specs.declared.call.Answer.TheVariants.{Done, Refused}
-use Rattle.participant.specs.Call.{settle, done_of, refused_of, fact1}
+use Rattle.participant.specs.Call.{accepted_of, done_of, refused_of, settle_to, settle, fact1}
 
 -- the list's first fact holds, or the rest has the first that does
 first-here : (f : ℕ × Bool) (fs : List (ℕ × Bool)) → f.1 ≡ true → First (f ∷ fs) f.0
@@ -41,47 +39,73 @@ pub first-number : (earlier later : List (ℕ × Bool)) (n : ℕ) → NoneHolds 
 first-number [] later n h = refl
 first-number (f ∷ fs) later n h = rw h.0 (first-number fs later n h.1)
 
+-- a fact that is given has no number 0
+pub first-counted : (earlier later : List (ℕ × Bool)) (n : ℕ) → numbered (earlier ++ ((n, true) ∷ later)) ≡ true → eqb n 0 ≡ false
+first-counted [] later n k = not-true (eqb n 0) (first-of (not (eqb n 0)) (numbered later) k)
+first-counted (f ∷ fs) later n k = first-counted fs later n (second-of (not (eqb f.0 0)) (numbered (fs ++ ((n, true) ∷ later))) k)
+
 pub none_number : (fs : List (ℕ × Bool)) → NoneHolds fs → first_of fs ≡ 0
 none_number [] h = refl
 none_number (f ∷ fs) h = rw h.0 (none_number fs h.1)
 
-module _ (p q : Participant) (fs : List (ℕ × Bool)) where
+-- its number is that of its refusal
+first-refusal : (fs : List (ℕ × Bool)) → known fs ≡ true → (first_of fs ≡ 0 → ⊥) → number_of (refusal (first_of fs)) ≡ first_of fs
+first-refusal fs k h = let within = first_known fs k in let some : 0 < first_of fs = omega arith in number_refused (first_of fs) some (omega arith)
+
+-- of a call that comes to r where no fact holds
+module _ {T : Type 0} (p : Participant) (r : Called T) (fs : List (ℕ × Bool)) where
   -- "the participant, its clock included, .. stay unchanged"
-  pub refused-exactly : (n : ℕ) → first_of fs ≡ n → (n ≡ 0 → ⊥) → settle p fs q ≡ refused_of p n
+  pub refused-exactly : (n : ℕ) → first_of fs ≡ n → (n ≡ 0 → ⊥) → settle_to p fs r ≡ refused_of p n
   refused-exactly n e h = rw (e, ne_eqb n 0 h)
 
-  pub done-exactly : first_of fs ≡ 0 → settle p fs q ≡ done_of q
+  pub done-exactly : first_of fs ≡ 0 → settle_to p fs r ≡ r
   done-exactly e = rw e
 
-  -- what the answer tells
-  pub on-refused : (n : ℕ) → (settle p fs q).answer ≡ Refused n → (settle p fs q ≡ refused_of p n) × First fs n
-  on-refused n e =
-      by_cases (eqb (first_of fs) 0)
-      (λ b. never (let z = rw b at e in cc))
-      (λ b. let z : ◌≡◌ {A = Called} (settle p fs q) (refused_of p (first_of fs)) = rw b in
-      let i : first_of fs ≡ n = let y = rw b at e in cc in
-      (z ∙ ap (refused_of p) i, rw (sym i) (first_holds fs (eqb-false (first_of fs) 0 b))))
-
-  pub on-done : numbered fs ≡ true → (settle p fs q).answer ≡ Done → (settle p fs q ≡ done_of q) × NoneHolds fs
-  on-done k e =
-      by_cases (eqb (first_of fs) 0)
-      (λ b. (rw b, none-holds fs k (eqb-true (first_of fs) 0 b)))
-      (λ b. never (let z = rw b at e in cc))
-
   -- one of the two, for a proof over calls
-  pub settle-cases {ℓ} : {C : Type ℓ} → numbered fs ≡ true → (settle p fs q ≡ done_of q → NoneHolds fs → C) → ((n : ℕ) → settle p fs q ≡ refused_of p n → First fs n → C) → C
+  pub settle-cases {ℓ} : {C : Type ℓ} → numbered fs ≡ true → (settle_to p fs r ≡ r → NoneHolds fs → C) → ((n : ℕ) → settle_to p fs r ≡ refused_of p n → First fs n → C) → C
   settle-cases k done-case no-case =
       by_cases (eqb (first_of fs) 0)
       (λ b. let e = eqb-true (first_of fs) 0 b in done-case (done-exactly e) (none-holds fs k e))
       (λ b. let h = eqb-false (first_of fs) 0 b in no-case (first_of fs) (refused-exactly (first_of fs) refl h) (first_holds fs h))
 
--- "An accepted call sets the clock"; fact 1 stands first in every timed call, so no call sets it back.
-module _ (p q : Participant) (time : ℕ) (fs : List (ℕ × Bool)) (k : numbered fs ≡ true) (set : q.clock ≡ time) where
-  pub timed-clock : (settle p ((1, fact1 p time) ∷ fs) q).answer ≡ Done → (settle p ((1, fact1 p time) ∷ fs) q).participant.clock ≡ time
-  timed-clock e = ap (λ (r : Called). r.participant.clock) (on-done p q ((1, fact1 p time) ∷ fs) k e).0 ∙ set
+  -- what the answer tells: it accepts
+  pub on-accepted : numbered fs ≡ true → (x : T) → (settle_to p fs r).answer ≡ Ok x → (settle_to p fs r ≡ r) × NoneHolds fs
+  on-accepted k x e =
+      settle-cases k
+      (λ s none. (s, none))
+      (λ n s f. let z : ◌≡◌ {A = ℕ} 0 1 = let y = ap (λ (c : Called T). c.answer) s in cc in never (cc))
 
-  pub timed-onward : p.clock ≤ (settle p ((1, fact1 p time) ∷ fs) q).participant.clock
+-- or it refuses, where the facts' numbers are those of refusals
+module _ {T : Type 0} (p q : Participant) (x : T) (fs : List (ℕ × Bool)) where
+  pub on-refused : known fs ≡ true → (why : Refusal) → (settle_to p fs (accepted_of q x)).answer ≡ Err why
+      → (settle_to p fs (accepted_of q x) ≡ record { participant = p; answer = Err why }) × First fs (number_of why)
+  on-refused k why e =
+      by_cases (eqb (first_of fs) 0)
+      (λ b. never (let z = rw b at e in cc))
+      (λ b. let h = eqb-false (first_of fs) 0 b in
+      let s = refused-exactly p (accepted_of q x) fs (first_of fs) refl h in
+      let given = ap (λ (c : Called T). c.answer) s in
+      let same : refusal (first_of fs) ≡ why = cc in
+      let n : number_of why ≡ first_of fs = ap number_of (sym same) ∙ first-refusal fs k h in
+      (s ∙ ap (λ (w : Refusal). record { participant = p; answer = Err w }) same, rw n (first_holds fs h)))
+
+  -- and so it does, of the first fact that holds
+  pub refuses-first : numbered fs ≡ true → (why : Refusal) → First fs (number_of why) → settle_to p fs (accepted_of q x) ≡ record { participant = p; answer = Err why }
+  refuses-first k why f =
+      let n : first_of fs ≡ number_of why = ap first_of f.is ∙ first-number f.earlier f.later (number_of why) f.none in
+      let some = eqb-false (number_of why) 0 (first-counted f.earlier f.later (number_of why) (ap numbered (sym f.is) ∙ k)) in
+      refused-exactly p (accepted_of q x) fs (number_of why) n some ∙ ap (λ (w : Refusal). record { participant = p; answer = Err w }) (refusal_numbered why)
+
+pub on-done : (p q : Participant) (fs : List (ℕ × Bool)) → numbered fs ≡ true → (settle p fs q).answer ≡ Ok tt → (settle p fs q ≡ done_of q) × NoneHolds fs
+on-done p q fs k e = on-accepted p (done_of q) fs k tt e
+
+-- "An accepted call sets the clock"; fact 1 stands first in every timed call, so no call sets it back.
+module _ {T : Type 0} (p : Participant) (r : Called T) (time : ℕ) (fs : List (ℕ × Bool)) (k : numbered fs ≡ true) (set : r.participant.clock ≡ time) where
+  pub timed-clock : (x : T) → (settle_to p ((1, fact1 p time) ∷ fs) r).answer ≡ Ok x → (settle_to p ((1, fact1 p time) ∷ fs) r).participant.clock ≡ time
+  timed-clock x e = ap (λ (c : Called T). c.participant.clock) (on-accepted p r ((1, fact1 p time) ∷ fs) k x e).0 ∙ set
+
+  pub timed-onward : p.clock ≤ (settle_to p ((1, fact1 p time) ∷ fs) r).participant.clock
   timed-onward =
-      settle-cases p q ((1, fact1 p time) ∷ fs) k
-      (λ e h. let c = ap (λ (r : Called). r.participant.clock) e in omega (arith, ltb-false time p.clock h.0))
-      (λ n e h. let c = ap (λ (r : Called). r.participant.clock) e in omega arith)
+      settle-cases p r ((1, fact1 p time) ∷ fs) k
+      (λ e h. let c = ap (λ (c : Called T). c.participant.clock) e in omega (arith, ltb-false time p.clock h.0))
+      (λ n e h. let c = ap (λ (c : Called T). c.participant.clock) e in omega arith)

@@ -14,243 +14,34 @@ abbrev pub first24 : List ℕ → List ℕ
 first24 s = sets (replicate 24 0) 0 s
 
 abbrev pub set_mi : Mi → Participant → Participant
-set_mi x p =
-    record {
-      mi = x;
-      mn = p.mn;
-      sci = p.sci;
-      priority = p.priority;
-      capability = p.capability;
-      desired = p.desired;
-      mark = p.mark;
-      clock = p.clock;
-      sent = p.sent;
-      kn = p.kn;
-      distributed = p.distributed;
-      size = p.size;
-      ckn = p.ckn;
-      wrapped = p.wrapped;
-      table = p.table;
-      latest = p.latest;
-      old = p.old;
-    }
+set_mi x p = record p { mi = x }
 
 abbrev pub set_mn : ℕ → Participant → Participant
-set_mn x p =
-    record {
-      mi = p.mi;
-      mn = x;
-      sci = p.sci;
-      priority = p.priority;
-      capability = p.capability;
-      desired = p.desired;
-      mark = p.mark;
-      clock = p.clock;
-      sent = p.sent;
-      kn = p.kn;
-      distributed = p.distributed;
-      size = p.size;
-      ckn = p.ckn;
-      wrapped = p.wrapped;
-      table = p.table;
-      latest = p.latest;
-      old = p.old;
-    }
+set_mn x p = record p { mn = x }
 
 abbrev pub set_mark : Bool → Participant → Participant
-set_mark x p =
-    record {
-      mi = p.mi;
-      mn = p.mn;
-      sci = p.sci;
-      priority = p.priority;
-      capability = p.capability;
-      desired = p.desired;
-      mark = x;
-      clock = p.clock;
-      sent = p.sent;
-      kn = p.kn;
-      distributed = p.distributed;
-      size = p.size;
-      ckn = p.ckn;
-      wrapped = p.wrapped;
-      table = p.table;
-      latest = p.latest;
-      old = p.old;
-    }
+set_mark x p = record p { mark = x }
 
 abbrev pub set_clock : ℕ → Participant → Participant
-set_clock x p =
-    record {
-      mi = p.mi;
-      mn = p.mn;
-      sci = p.sci;
-      priority = p.priority;
-      capability = p.capability;
-      desired = p.desired;
-      mark = p.mark;
-      clock = x;
-      sent = p.sent;
-      kn = p.kn;
-      distributed = p.distributed;
-      size = p.size;
-      ckn = p.ckn;
-      wrapped = p.wrapped;
-      table = p.table;
-      latest = p.latest;
-      old = p.old;
-    }
+set_clock x p = record p { clock = x }
 
 abbrev pub set_sent : ℕ → Participant → Participant
-set_sent x p =
-    record {
-      mi = p.mi;
-      mn = p.mn;
-      sci = p.sci;
-      priority = p.priority;
-      capability = p.capability;
-      desired = p.desired;
-      mark = p.mark;
-      clock = p.clock;
-      sent = x;
-      kn = p.kn;
-      distributed = p.distributed;
-      size = p.size;
-      ckn = p.ckn;
-      wrapped = p.wrapped;
-      table = p.table;
-      latest = p.latest;
-      old = p.old;
-    }
+set_sent x p = record p { sent = x }
 
 abbrev pub set_kn : ℕ → Participant → Participant
-set_kn x p =
-    record {
-      mi = p.mi;
-      mn = p.mn;
-      sci = p.sci;
-      priority = p.priority;
-      capability = p.capability;
-      desired = p.desired;
-      mark = p.mark;
-      clock = p.clock;
-      sent = p.sent;
-      kn = x;
-      distributed = p.distributed;
-      size = p.size;
-      ckn = p.ckn;
-      wrapped = p.wrapped;
-      table = p.table;
-      latest = p.latest;
-      old = p.old;
-    }
+set_kn x p = record p { kn = x }
 
 abbrev pub set_distributed : ℕ → Participant → Participant
-set_distributed x p =
-    record {
-      mi = p.mi;
-      mn = p.mn;
-      sci = p.sci;
-      priority = p.priority;
-      capability = p.capability;
-      desired = p.desired;
-      mark = p.mark;
-      clock = p.clock;
-      sent = p.sent;
-      kn = p.kn;
-      distributed = x;
-      size = p.size;
-      ckn = p.ckn;
-      wrapped = p.wrapped;
-      table = p.table;
-      latest = p.latest;
-      old = p.old;
-    }
+set_distributed x p = record p { distributed = x }
 
 abbrev pub set_wrapped : List ℕ → Participant → Participant
-set_wrapped x p =
-    record {
-      mi = p.mi;
-      mn = p.mn;
-      sci = p.sci;
-      priority = p.priority;
-      capability = p.capability;
-      desired = p.desired;
-      mark = p.mark;
-      clock = p.clock;
-      sent = p.sent;
-      kn = p.kn;
-      distributed = p.distributed;
-      size = p.size;
-      ckn = p.ckn;
-      wrapped = x;
-      table = p.table;
-      latest = p.latest;
-      old = p.old;
-    }
+set_wrapped x p = record p { wrapped = x }
 
 abbrev pub set_table : Table → Participant → Participant
-set_table x p =
-    record {
-      mi = p.mi;
-      mn = p.mn;
-      sci = p.sci;
-      priority = p.priority;
-      capability = p.capability;
-      desired = p.desired;
-      mark = p.mark;
-      clock = p.clock;
-      sent = p.sent;
-      kn = p.kn;
-      distributed = p.distributed;
-      size = p.size;
-      ckn = p.ckn;
-      wrapped = p.wrapped;
-      table = x;
-      latest = p.latest;
-      old = p.old;
-    }
+set_table x p = record p { table = x }
 
 abbrev pub set_latest : Slot → Participant → Participant
-set_latest x p =
-    record {
-      mi = p.mi;
-      mn = p.mn;
-      sci = p.sci;
-      priority = p.priority;
-      capability = p.capability;
-      desired = p.desired;
-      mark = p.mark;
-      clock = p.clock;
-      sent = p.sent;
-      kn = p.kn;
-      distributed = p.distributed;
-      size = p.size;
-      ckn = p.ckn;
-      wrapped = p.wrapped;
-      table = p.table;
-      latest = x;
-      old = p.old;
-    }
+set_latest x p = record p { latest = x }
 
 abbrev pub set_old : Slot → Participant → Participant
-set_old x p =
-    record {
-      mi = p.mi;
-      mn = p.mn;
-      sci = p.sci;
-      priority = p.priority;
-      capability = p.capability;
-      desired = p.desired;
-      mark = p.mark;
-      clock = p.clock;
-      sent = p.sent;
-      kn = p.kn;
-      distributed = p.distributed;
-      size = p.size;
-      ckn = p.ckn;
-      wrapped = p.wrapped;
-      table = p.table;
-      latest = p.latest;
-      old = x;
-    }
+set_old x p = record p { old = x }

@@ -1,49 +1,41 @@
 // What a call answers, beside what the participant becomes.
 ghost use Rattle.std.specs.Prelude.{◌≡◌};
-ghost use Rattle.participant.specs.Call.{done_of, refused_of, aged_to};
+ghost use Rattle.participant.specs.Call.{accepted_of, aged_to};
 
 use crate::Participant;
+use base_facts::Refusal;
 
 #[derive(Clone, Copy)]
-pub enum Answer {
-    Done,
-    Refused(u8),
-}
-
-#[derive(Clone, Copy)]
-pub struct Called {
+pub struct Called<T> {
     pub participant: Participant,
-    pub answer: Answer,
+    pub answer: Result<T, Refusal>,
 }
 
-pub fn done(q: Participant) -> Called
-    ensures { result ≡ done_of q }
+pub fn accepted<T>(q: Participant, x: T) -> Called<T>
+    ensures { result ≡ accepted_of q x }
 {
-    let answer = Answer::Done;
     Called {
         participant: q,
-        answer,
+        answer: Ok(x),
     }
 }
 
-pub fn refused(p: Participant, n: u8) -> Called
-    ensures { result ≡ refused_of p n }
+pub fn refused<T>(p: Participant, why: Refusal) -> Called<T>
+    ensures { result ≡ record { participant = p; answer = Err why } }
 {
-    let answer = Answer::Refused(n);
     Called {
         participant: p,
-        answer,
+        answer: Err(why),
     }
 }
 
 // The participant at a time: its table expired, its clock set.
+#[tactic(auto, unfolding(crate::specs::Call::aged_to))]
 pub fn aged_to(p: Participant, time: u64) -> Participant
     ensures { result ≡ aged_to p time }
 {
-    let before = p.table;
-    let table = table_expiry::expire(before, time);
     let mut q = p;
-    q.table = table;
+    table_expiry::expire(&mut q.table, time);
     q.clock = time;
     q
 }

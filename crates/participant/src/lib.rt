@@ -9,7 +9,7 @@ pub mod keys;
 
 // A key on record; `receive` and `transmit` are what the host reported of it.
 #[repr(C)]
-#[derive(Clone, Copy)]
+#[derive(Clone, Copy, PartialEq, Eq, Default)]
 pub struct Key {
     pub mi: Mi,
     pub kn: u32,
@@ -21,16 +21,18 @@ pub struct Key {
 }
 
 // A place for a key, all zeros where it holds none.
+// `held` and no `Option<Key>`: the C interface takes no struct with an enum in it (error[exported-enum]).
 #[repr(C)]
-#[derive(Clone, Copy)]
+#[derive(Clone, Copy, PartialEq, Eq, Default)]
 pub struct Slot {
     pub held: bool,
     pub key: Key,
 }
 
 // `sent` and `distributed` are the times of the last send and the last distribution; the CKN is the first `size` octets.
+// `size` beside `ckn` and no slice: the record is a plain value of the C interface, with no reference in it.
 #[repr(C)]
-#[derive(Clone, Copy)]
+#[derive(Clone, Copy, Default)]
 pub struct Participant {
     pub table: Table,
     pub clock: u64,

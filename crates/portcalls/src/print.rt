@@ -1,94 +1,71 @@
-// Text into a buffer, from a place on; each answers the next place.
+// The text of a line.
+use arrayvec::ArrayString;
+use base_facts::Refusal;
 use base_mi::Mi;
 use page::line::Line;
-use std::fmt;
-use std::fmt::Write;
+use std::fmt::{Display, Write};
+use std::{fmt, str};
 
-pub(crate) fn put(out: &mut [u8], at: usize, x: u8) -> usize {
-    if at < out.len() {
-        out[at] = x;
-        return at + 1;
-    }
-    at
+// The longest line, that of two lists of 255 entries each, has not a third of so many octets.
+pub(crate) type Text = ArrayString<65536>;
+
+// Puts a line into the text. No line is longer than the text has room.
+pub(crate) fn put<D: Display + Drop>(out: &mut Text, line: D) {
+    let _ = writeln!(out, "{line}");
 }
 
-pub(crate) fn words(out: &mut [u8], at: usize, s: &[u8]) -> usize {
-    let mut n = at;
-    let mut i = 0;
-    while i < s.len() {
-        n = put(out, n, s[i]);
-        i += 1;
-    }
-    n
-}
-
-pub(crate) fn line(out: &mut [u8], at: usize, l: Line) -> usize {
-    let text = l.text;
-    let n = l.len;
-    if text.len() < n {
-        return at;
-    }
-    words(out, at, &text[..n])
-}
-
-// A text that is written into a buffer as a format makes it.
+// What a call answers: that of its line, or the number of its refusal.
 #[derive(Drop)]
-struct Text<'a> {
-    out: &'a mut [u8],
-    at: usize,
+pub(crate) struct Answer<T>(pub(crate) Result<T, Refusal>);
+
+impl<T: Display> Display for Answer<T> {
+    fn fmt<W: fmt::Write>(&self, f: &mut fmt::Formatter<W>) -> fmt::Result {
+        match &self.0 {
+            Ok(said) => said.fmt(f),
+            Err(why) => write!(f, "refused {}", why.number()),
+        }
+    }
 }
 
-impl fmt::Write for Text<'_> {
-    fn write_str(&mut self, s: &str) -> fmt::Result {
-        self.at = words(self.out, self.at, s.as_bytes());
+// A member's identifier.
+#[derive(Clone, Copy)]
+pub(crate) struct Member(pub(crate) Mi);
+
+impl Display for Member {
+    fn fmt<W: fmt::Write>(&self, f: &mut fmt::Formatter<W>) -> fmt::Result {
+        let Member(m) = *self;
+        write!(f, "{:016x}{:08x}", m.hi, m.lo)
+    }
+}
+
+// A word, and octets in hex.
+#[derive(Clone, Copy)]
+pub(crate) struct Octets<'a>(pub(crate) &'a str, pub(crate) &'a [u8]);
+
+impl Display for Octets<'_> {
+    fn fmt<W: fmt::Write>(&self, f: &mut fmt::Formatter<W>) -> fmt::Result {
+        f.write_str(self.0)?;
+        f.write_str(" ")?;
+        for x in self.1 {
+            write!(f, "{x:02x}")?;
+        }
         Ok(())
     }
 }
 
-pub(crate) fn decimal(out: &mut [u8], at: usize, x: u64) -> usize {
-    let mut text = Text { out, at };
-    let _ = write!(text, "{x}");
-    text.at
-}
+// A word, and two numbers.
+#[derive(Clone, Copy)]
+pub(crate) struct Numbers<'a>(pub(crate) &'a str, pub(crate) u64, pub(crate) u64);
 
-pub(crate) fn hex(out: &mut [u8], at: usize, x: u64, width: usize) -> usize {
-    let mut text = Text { out, at };
-    let _ = write!(text, "{x:0width$x}");
-    text.at
-}
-
-pub(crate) fn mi(out: &mut [u8], at: usize, m: Mi) -> usize {
-    let n = hex(out, at, m.hi, 16);
-    hex(out, n, m.lo as u64, 8)
-}
-
-pub(crate) fn flag(out: &mut [u8], at: usize, x: bool) -> usize {
-    if x {
-        put(out, at, b'1')
-    } else {
-        put(out, at, b'0')
+impl Display for Numbers<'_> {
+    fn fmt<W: fmt::Write>(&self, f: &mut fmt::Formatter<W>) -> fmt::Result {
+        write!(f, "{} {} {}", self.0, self.1, self.2)
     }
 }
 
-// A decimal, with the octet that stands before it.
-pub(crate) fn after(out: &mut [u8], at: usize, mark: u8, x: u64) -> usize {
-    let n = put(out, at, mark);
-    decimal(out, n, x)
-}
-
-pub(crate) fn refused(out: &mut [u8], at: usize, number: u8) -> usize {
-    let n = words(out, at, b"refused");
-    let n = after(out, n, b' ', number as u64);
-    put(out, n, b'\n')
-}
-
-// The first `len` octets of `s`, in hex.
-pub(crate) fn octets(out: &mut [u8], at: usize, s: &[u8], len: usize) -> usize {
-    let mut n = at;
-    let mut i = 0;
-    while i < len {
-        n = hex(out, n, base_octets::octet(s, i) as u64, 2);
-        i += 1;
+// Puts the line of a port page, which has its end, into the text.
+pub(crate) fn page(out: &mut Text, l: Line) {
+    if let Ok(line) = str::from_utf8(l.octets()) {
+        let _ = out.write_str(line);
     }
-    n
 }

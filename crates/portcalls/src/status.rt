@@ -1,79 +1,46 @@
 // The answer to "ask": the words of the port page's line, each by its question, then what is due.
-use crate::print;
-use base_mi::Mi;
+use crate::print::Member;
 use participant::Participant;
-use table::ROOM;
+use std::fmt;
+use std::fmt::Write;
 use table_election::Server;
 
-// Whether a member is Live, or, where that is asked, Potential.
-fn is_of(p: Participant, m: Mi, live: bool) -> bool {
-    if live {
-        return call_questions::is_live(p, m);
-    }
-    call_questions::is_potential(p, m)
-}
+#[derive(Clone, Copy)]
+pub(crate) struct Status<'a>(pub(crate) &'a Participant);
 
-// How many of the entries, each asked by its identifier.
-fn count_of(p: Participant, live: bool) -> u64 {
-    let t = p.table;
-    let peers = t.peers;
-    let n = base_facts::at_most(t.count, ROOM);
-    let mut k: usize = 0;
-    let mut i: usize = 0;
-    while i < n {
-        let e = peers[i];
-        let m = e.mi;
-        if is_of(p, m, live) {
-            k += 1;
+impl fmt::Display for Status<'_> {
+    fn fmt<W: fmt::Write>(&self, f: &mut fmt::Formatter<W>) -> fmt::Result {
+        let p = *self.0;
+        // each entry is asked by its identifier
+        let live = p
+            .table
+            .held()
+            .iter()
+            .filter(|e| call_questions::is_live(p, e.mi))
+            .count();
+        let potential = p
+            .table
+            .held()
+            .iter()
+            .filter(|e| call_questions::is_potential(p, e.mi))
+            .count();
+        write!(f, "sent {} live {live} potential {potential} server ", p.mn)?;
+        match call_questions::server(p) {
+            Server::Nobody => f.write_str("none")?,
+            Server::Ourselves => f.write_str("self")?,
+            Server::Elected(m) => Member(m).fmt(f)?,
         }
-        i += 1;
-    }
-    k as u64
-}
-
-fn number(out: &mut [u8], at: usize, word: &[u8], x: u64) -> usize {
-    let n = print::words(out, at, word);
-    print::decimal(out, n, x)
-}
-
-fn server(out: &mut [u8], at: usize, s: Server) -> usize {
-    match s {
-        Server::Nobody => print::words(out, at, b"none"),
-        Server::Ourselves => print::words(out, at, b"self"),
-        Server::Elected(m) => print::mi(out, at, m),
+        if p.latest.held {
+            write!(f, " key {}", p.latest.key.kn)?;
+        } else {
+            f.write_str(" key none")?;
+        }
+        let hello = due(call_questions::hello_due(p));
+        let fresh = due(call_questions::fresh_due(p));
+        write!(f, " hello {hello} fresh {fresh}")
     }
 }
 
-fn key(out: &mut [u8], at: usize, p: Participant) -> usize {
-    let latest = p.latest;
-    let k = latest.key;
-    if latest.held {
-        return number(out, at, b" key ", k.kn as u64);
-    }
-    print::words(out, at, b" key none")
-}
-
-fn due(out: &mut [u8], at: usize, word: &[u8], x: bool) -> usize {
-    let n = print::words(out, at, word);
-    if x {
-        return print::words(out, n, b"due");
-    }
-    print::words(out, n, b"no")
-}
-
-// The words of the line.
-fn page(out: &mut [u8], p: Participant) -> usize {
-    let n = number(out, 0, b"sent ", p.mn as u64);
-    let n = number(out, n, b" live ", count_of(p, true));
-    let n = number(out, n, b" potential ", count_of(p, false));
-    let n = print::words(out, n, b" server ");
-    let n = server(out, n, call_questions::server(p));
-    key(out, n, p)
-}
-
-pub(crate) fn line(out: &mut [u8], p: Participant) -> usize {
-    let n = page(out, p);
-    let n = due(out, n, b" hello ", call_questions::hello_due(p));
-    let n = due(out, n, b" fresh ", call_questions::fresh_due(p));
-    print::put(out, n, b'\n')
+fn due(x: bool) -> &'static str {
+    if x { "due" } else { "no" }
 }

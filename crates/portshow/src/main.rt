@@ -5,14 +5,13 @@ ghost use Rattle.std.specs.Prelude.{◌<◌, length, OnOk, IfSome};
 ghost use Rattle.page_shown.specs.Show.{shown_of};
 ghost use Rattle.portshow.specs.Written.{WritesLine};
 
-mod input;
-
-use input::{Asked, Fault};
 use page::line::Line;
-use std::fmt::Display;
+use portinput::{Asked, Fault};
 use std::io;
 use std::io::{Read, Write};
 use std::rt::{Env, Files};
+
+const PROGRAM: &str = "portshow";
 
 const HELP: &str = "portshow [FILE]
 
@@ -24,24 +23,10 @@ the number of the latest key, or none. What is no well-formed image gives the li
     refused 16
 ";
 
-// A line on standard error. Nobody can be told where that fails.
-fn complain<D: Display + Drop>(rt: &impl Eprint, what: D) {
-    let _ = eprintln!(rt; "portshow: {what}");
-}
-
-fn help<P: Print>(rt: &P) -> Result<(), Fault<'static>> {
-    input::if_written(rt.print(HELP))
-}
-
 fn say<W: Write>(out: &mut W, l: Line) -> io::Result<()>
     ensures { OnOk result (WritesLine (W.contents out.old) (W.contents out.new) l) }
 {
-    let text = l.text;
-    let n = l.len;
-    if n <= text.len() {
-        return out.write_all(&text[..n]);
-    }
-    Ok(())
+    out.write_all(l.octets())
 }
 
 // No good image fills the space, so none is cut.
@@ -54,29 +39,29 @@ fn show<R: Read, W: Write, E: Eprint>(
         (λ image. length image < 1025 → WritesLine (W.contents out.old) (W.contents out.new) (shown_of image))) }
 {
     let mut space = [0u8; 1025];
-    let (n, read) = input::fill(from, &mut space);
-    input::if_read(read)?;
+    let (n, read) = portinput::fill(from, &mut space);
+    portinput::if_read(read)?;
     if n == 0 {
-        complain(rt, "there are no octets to read");
+        portinput::complain(rt, PROGRAM, "there are no octets to read");
     }
     let l = page_shown::show(&space[..n]);
-    input::if_written(say(out, l))
+    portinput::if_written(say(out, l))
 }
 
 fn start<'a, R: Env + Files + Input + Print + Eprint>(
     rt: &R,
     name: &'a mut [u8],
 ) -> Result<(), Fault<'a>> {
-    match input::wanted(rt, name)? {
-        Asked::Help => help(rt),
+    match portinput::wanted(rt, name)? {
+        Asked::Help => portinput::if_written(rt.print(HELP)),
         Asked::Input => show(rt, &mut rt.reader(), &mut io::writer(rt)),
-        Asked::File(file) => show(rt, &mut input::open(rt, file)?, &mut io::writer(rt)),
+        Asked::File(file) => show(rt, &mut portinput::open(rt, file)?, &mut io::writer(rt)),
     }
 }
 
 fn main(rt: HostRuntime) {
-    let mut name = [0u8; input::NAME];
+    let mut name = [0u8; portinput::NAME];
     if let Err(fault) = start(&rt, &mut name) {
-        complain(&rt, fault);
+        portinput::complain(&rt, PROGRAM, fault);
     }
 }

@@ -2,32 +2,18 @@
 // that keeps more than 1,024 octets (docs/COST.md). Plays them all on what it reads, and prints a check line.
 #![tactic(auto)]
 
-use call_accept::Received;
-use call_send::Sent;
-use frame_writer::Wrote;
-use page::line::Line;
+use base_facts::Refusal;
 use participant::Participant;
 use participant::call::Called;
+use std::io;
 use std::io::Read;
-use std::{io, num};
 use table_election::Server;
 
 // As much of the input is read; where it is shorter, zeros follow.
 const ROOM: usize = 96;
 
-fn of_called(r: Called) -> u64 {
-    let q = r.participant;
-    q.clock
-}
-
-fn of_received(r: Received) -> u64 {
-    let q = r.participant;
-    q.clock
-}
-
-fn of_sent(r: Sent) -> u64 {
-    let q = r.participant;
-    q.clock
+fn of_called<T: Drop>(r: Called<T>) -> u64 {
+    r.participant.clock
 }
 
 fn of_server(s: Server) -> u64 {
@@ -38,22 +24,14 @@ fn of_server(s: Server) -> u64 {
     }
 }
 
-fn of_bool(b: bool) -> u64 {
-    if b { 1 } else { 0 }
-}
-
-fn of_wrote(w: Wrote) -> u64 {
-    match w {
-        Wrote::Octets(n) => n as u64,
-        Wrote::Refused(n) => n as u64,
+fn of_wrote(wrote: Result<usize, Refusal>) -> u64 {
+    match wrote {
+        Ok(n) => n as u64,
+        Err(why) => why.number() as u64,
     }
 }
 
-fn of_line(l: Line) -> u64 {
-    l.len as u64
-}
-
-// The calls up to the op-th, with what `d` gives them.
+// The calls up to the op-th, with what `d` gives them. A recursion: the measurement needs a function that calls itself.
 fn called(p: Participant, op: u8, d: &[u8]) -> u64 {
     if op == 0 {
         return 0;
@@ -66,26 +44,26 @@ fn called(p: Participant, op: u8, d: &[u8]) -> u64 {
     let mut out = [0u8; 1024];
     let x = match op {
         1 => of_called(call_creation::create(time, m, time, 16, 2, yes, d)),
-        2 => of_received(call_receive::receive(p, time, yes, d)),
-        3 => of_sent(call_send::send(p, time, kn, kn, &mut out)),
+        2 => of_called(call_receive::receive(p, time, yes, d)),
+        3 => of_called(call_send::send(p, time, kn, kn, &mut out)),
         4 => of_called(call_distribute::distribute(p, time, d)),
         5 => of_called(call_tick::tick(p, time)),
         6 => of_called(call_new_mi::new_mi(p, time, m)),
         7 => of_called(call_report::report(p, m, kn, yes)),
         8 => of_server(call_questions::server(p)),
-        9 => of_bool(call_questions::elected_self(p)),
-        10 => of_bool(call_questions::fresh_due(p)),
-        11 => of_bool(call_questions::hello_due(p)),
-        12 => of_bool(call_questions::is_live(p, m)),
-        13 => of_bool(call_questions::is_potential(p, m)),
+        9 => call_questions::elected_self(p) as u64,
+        10 => call_questions::fresh_due(p) as u64,
+        11 => call_questions::hello_due(p) as u64,
+        12 => call_questions::is_live(p, m) as u64,
+        13 => call_questions::is_potential(p, m) as u64,
         14 => call_questions::live_count(p) as u64,
         15 => call_questions::potential_count(p) as u64,
         16 => of_wrote(image::write(&mut out, p)),
         17 => of_called(image_reading::read(d)),
-        18 => of_line(page::status(p)),
-        _ => of_line(page_shown::show(d)),
+        18 => page::status(p).len as u64,
+        _ => page_shown::show(d).len as u64,
     };
-    num::wrapping_add_u64(before, x)
+    before.wrapping_add(x)
 }
 
 fn main(rt: HostRuntime) -> io::Result<()> {

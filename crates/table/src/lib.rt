@@ -2,15 +2,15 @@
 #![tactic(auto)]
 
 ghost use Rattle.std.specs.Prelude.{◌≡◌};
-ghost use Rattle.table.specs.Table.{blank_peer, empty_table};
+ghost use Rattle.table.specs.Table.{blank_peer, empty_table, entries};
 
 use base_mi::Mi;
 
 pub const ROOM: usize = 16;
 
-// `proof` is the time of the last proof, 0 where the entry is not proven.
+// `proof` is the time of the last proof, 0 where the entry is not proven. No `Option`: the C interface takes no struct with an enum in it.
 #[repr(C)]
-#[derive(Clone, Copy)]
+#[derive(Clone, Copy, PartialEq, Eq, Default)]
 pub struct Peer {
     pub mi: Mi,
     pub mn: u32,
@@ -24,9 +24,9 @@ pub struct Peer {
     pub proven: bool,
 }
 
-// The first `count` peers; a count above 16 is taken as 16.
+// The first `count` peers; a count above 16 is taken as 16. No `Vec`: the record is a plain value of the C interface, with no heap.
 #[repr(C)]
-#[derive(Clone, Copy)]
+#[derive(Clone, Copy, PartialEq, Eq, Default)]
 pub struct Table {
     pub peers: [Peer; ROOM],
     pub count: usize,
@@ -36,25 +36,21 @@ pub struct Table {
 pub fn blank() -> Peer
     ensures { result ≡ blank_peer }
 {
-    Peer {
-        mi: Mi { hi: 0, lo: 0 },
-        mn: 0,
-        sci: 0,
-        accepted: 0,
-        proof: 0,
-        priority: 0,
-        capability: 0,
-        server: false,
-        desired: false,
-        proven: false,
-    }
+    Peer::default()
 }
 
+#[tactic(auto, unfolding(crate::specs::Table::empty_table))]
 pub fn empty() -> Table
     ensures { result ≡ empty_table }
 {
-    Table {
-        peers: [blank(); ROOM],
-        count: 0,
+    Table::default()
+}
+
+impl Table {
+    // The entries that the table holds.
+    pub fn held(&self) -> &[Peer]
+        ensures { result.now ≡ entries self.now }
+    {
+        &self.peers[..self.count.min(ROOM)]
     }
 }

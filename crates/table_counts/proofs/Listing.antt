@@ -2,9 +2,10 @@
 use Prim.Native.Nat.{◌+◌, ◌≤◌, min}
 use mathlib.Core.Path.{◌≡◌, refl}
 use mathlib.Core.Bool.{Bool}
-use mathlib.Core.List.{List, [], ◌∷◌, map}
+use mathlib.Core.List.{List, map}
 use native.Mathlib.Omega.{arith}
 use lib.ListN.{length}
+use Rattle.std.proofs.lemmas.List.Filters.{length-filter_both}
 use Rattle.base_mi.specs.declared.entry.Entry.{Entry}
 use Rattle.base_mi.specs.Entry.{entries_of}
 use Rattle.table.specs.declared.Peer.{Peer}
@@ -13,16 +14,12 @@ use Rattle.law_lists.specs.Lists.{those}
 use Rattle.table.specs.Table.{entries}
 use Rattle.table_lookup.specs.Look.{is_live, is_potential}
 use Rattle.table_counts.specs.Counts.{entry_of, blank_entry, list_of, live_count, potential_count, live_list, potential_list}
-use Rattle.law_lists.proofs.Laws.{by_cases, length-those, length-of-map, length-pad, take-pad}
+use Rattle.law_lists.proofs.Laws.{length-those, length-of-map, length-pad, take-pad}
 use Rattle.table_expiry.proofs.Aging.{at-most-16}
-
-parted : (l : List Peer) → length (those is_live l) + length (those is_potential l) ≡ length l
-parted [] = refl
-parted (p ∷ l) = by_cases p.proven (λ e. rw e (omega (arith, parted l))) (λ e. rw e (omega (arith, parted l)))
 
 pub live-potential : (t : Table) → live_count t + potential_count t ≡ length (entries t)
 unfolding live_count potential_count
-live-potential t = parted (entries t)
+live-potential t = length-filter_both is_live is_potential (λ p. refl) (entries t)
 
 few : (f : Peer → Bool) (t : Table) → length (map entry_of (those f (entries t))) ≤ 16
 few f t = omega (arith, length-of-map entry_of (those f (entries t)), length-those f (entries t), at-most-16 t)

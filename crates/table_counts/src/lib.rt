@@ -1,97 +1,77 @@
 // How many peers are Live and how many Potential, and their lists for the writer, in table order.
 #![tactic(auto)]
 
-ghost use Rattle.std.specs.Prelude.{◌≡◌, map, length};
+ghost use Rattle.std.specs.Prelude.{◌≡◌, [], map, length};
 ghost use Rattle.law_lists.specs.Lists.{those};
 ghost use Rattle.table.specs.Table.{entries};
-ghost use Rattle.table_counts.specs.Counts.{is_of, entry_of, blank_entry, list_of, live_count, potential_count, live_list, potential_list};
+ghost use Rattle.table_counts.specs.Counts.{is_of, entry_of, list_of, live_count, potential_count, live_list, potential_list};
 
-use base_mi::Mi;
 use base_mi::entry::{Entries, Entry};
-use table::{Peer, ROOM, Table};
+use table::{Peer, Table};
 
 // Whether the entry is Live, or, where that is asked, Potential.
-pub fn is_of(p: Peer, live: bool) -> bool
-    ensures { result ≡ is_of live p }
+pub fn is_of(p: &Peer, live: bool) -> bool
+    ensures { result ≡ is_of live p.now }
 {
-    if live { p.proven } else { !p.proven }
+    p.proven == live
 }
 
-fn count_of(t: Table, live: bool) -> usize
-    ensures { result ≡ length (those (is_of live) (entries t)) }
+fn count_of(t: &Table, live: bool) -> usize
+    ensures { result ≡ length (those (is_of live) (entries t.now)) }
 {
-    let peers = t.peers;
-    let n = base_facts::at_most(t.count, ROOM);
-    let mut k: usize = 0;
-    let mut i: usize = 0;
-    while i < n {
-        let p = peers[i];
-        if is_of(p, live) {
-            k += 1;
-        }
-        i += 1;
-    }
-    k
+    t.held().iter().filter(|p| is_of(p, live)).count()
 }
 
-pub fn live_count(t: Table) -> usize
-    ensures { result ≡ live_count t }
+#[tactic(auto, unfolding(crate::specs::Counts::live_count))]
+pub fn live_count(t: &Table) -> usize
+    ensures { result ≡ live_count t.now }
 {
     count_of(t, true)
 }
 
-pub fn potential_count(t: Table) -> usize
-    ensures { result ≡ potential_count t }
+#[tactic(auto, unfolding(crate::specs::Counts::potential_count))]
+pub fn potential_count(t: &Table) -> usize
+    ensures { result ≡ potential_count t.now }
 {
     count_of(t, false)
 }
 
-pub fn entry_of(p: Peer) -> Entry
-    ensures { result ≡ entry_of p }
+pub fn entry_of(p: &Peer) -> Entry
+    ensures { result ≡ entry_of p.now }
 {
-    let mi = p.mi;
-    Entry { mi, mn: p.mn }
+    Entry { mi: p.mi, mn: p.mn }
 }
 
-fn blank_entry() -> Entry
-    ensures { result ≡ blank_entry }
+// A list with no entry yet.
+fn blank_list() -> Entries
+    ensures { result ≡ list_of [] }
 {
-    Entry {
-        mi: Mi { hi: 0, lo: 0 },
-        mn: 0,
-    }
+    Entries::default()
 }
 
-fn list_of(t: Table, live: bool) -> Entries
-    ensures { result ≡ list_of (map entry_of (those (is_of live) (entries t))) }
+fn list_of(t: &Table, live: bool) -> Entries
+    ensures { result ≡ list_of (map entry_of (those (is_of live) (entries t.now))) }
 {
-    let peers = t.peers;
-    let n = base_facts::at_most(t.count, ROOM);
-    let mut out = [blank_entry(); 16];
-    let mut k: usize = 0;
-    let mut i: usize = 0;
-    while i < n {
-        let p = peers[i];
+    let mut out = blank_list();
+    for p in t.held() {
         if is_of(p, live) {
-            out[k] = entry_of(p);
-            k += 1;
+            out.entries[out.count] = entry_of(p);
+            out.count += 1;
         }
-        i += 1;
     }
-    Entries {
-        entries: out,
-        count: k,
-    }
+    out
 }
 
-pub fn live_list(t: Table) -> Entries
-    ensures { result ≡ live_list t }
+#[tactic(auto, unfolding(crate::specs::Counts::live_list))]
+pub fn live_list(t: &Table) -> Entries
+    ensures { result ≡ live_list t.now }
 {
     list_of(t, true)
 }
 
-pub fn potential_list(t: Table) -> Entries
-    ensures { result ≡ potential_list t }
+#[tactic(auto, unfolding(crate::specs::Counts::potential_list))]
+pub fn potential_list(t: &Table) -> Entries
+    ensures { result ≡ potential_list t.now }
 {
     list_of(t, false)
 }

@@ -1,52 +1,33 @@
 -- A peer is elected exactly if one beats us; we are exactly if none does, our priority isn't 255 and a peer is Live.
-use Prim.Native.Nat.{ℕ, ◌+◌, ◌<◌}
+use Prim.Native.Nat.{ℕ}
 use mathlib.Core.Path.{◌≡◌, refl, ap, sym, ◌∙◌}
 use mathlib.Core.Bool.{Bool, true, false, cond, not, ◌&&◌, ◌||◌}
-use mathlib.Core.List.{List, [], ◌∷◌, ◌++◌}
-use native.Mathlib.Numerals.{add-one}
+use mathlib.Core.List.{List, [], ◌∷◌}
+use Rattle.std.specs.Prelude.{Some, None}
 use native.Mathlib.Omega.{arith}
-use lib.ListN.{length, length-append, take, get_or}
-use lib.Seq.{take-suc}
+use lib.ListN.{length}
 use lib.Dec.{eqb}
 use borrow.Author.Tests.{eqb-true}
 use Rattle.base_mi.specs.declared.Mi.{Mi}
 use Rattle.table.specs.declared.Peer.{Peer}
 use Rattle.table.specs.declared.Table.{Table}
 use Rattle.table_election.specs.declared.Rank.{Rank}
-use Rattle.table_election.specs.declared.Lead.TheVariants.{Neither, By}
 use Rattle.table_election.specs.declared.Server.{Server}
 use Rattle.table_election.specs.declared.Server.TheVariants.{Elected}
 use Rattle.law_lists.specs.Lists.{those}
-use Rattle.table.specs.Table.{entries, blank_peer}
+use Rattle.table.specs.Table.{entries}
 use Rattle.table_lookup.specs.Look.{is_live}
 use Rattle.table_counts.specs.Counts.{live_count}
 use Rattle.table_election.specs.Elect.{lower, rank_of, may_lead, eligible, candidates, winner, elected}
-use Rattle.table_election.specs.Lead.{leader, ranks, server_led}
-use Rattle.table_election.specs.Stand.{is_ours, is_theirs, beats_us, some_beats, stand_of}
-use Rattle.law_lists.proofs.Laws.{by_cases, or-none, or-with, those-kept, those-gone}
+use Rattle.table_election.specs.Lead.{by_us, by_peer, leader, ranks, server_led}
+use Rattle.table_election.specs.Stand.{is_ours, is_theirs, some_beats, stand_of}
+use Rattle.law_lists.proofs.Laws.{by_cases}
 use Rattle.table_election.proofs.Least.{either_way, led-winner}
-
--- ---- one turn of the loops
-
-module _ (l : List Peer) (i : ℕ) (h : i < length l) where
-  pub live_more : is_live (get_or l i blank_peer) ≡ true → length (those is_live (take (i + 1) l)) ≡ length (those is_live (take i l)) + 1
-  live_more e = ap length (those-kept is_live l i blank_peer h e) ∙ length-append (those is_live (take i l)) (get_or l i blank_peer ∷ [])
-
-  pub live_same : is_live (get_or l i blank_peer) ≡ false → length (those is_live (take (i + 1) l)) ≡ length (those is_live (take i l))
-  live_same e = ap length (those-gone is_live l i blank_peer h e)
-
-module _ (own : Rank) where
-  some-append : (l m : List Peer) → some_beats own (l ++ m) ≡ some_beats own l || some_beats own m
-  some-append [] m = refl
-  some-append (p ∷ l) m = ap (λ (b : Bool). beats_us own p || b) (some-append l m) ∙ or-with (beats_us own p) (some_beats own l) (some_beats own m)
-
-  pub some_next : (l : List Peer) (i : ℕ) → i < length l → some_beats own (take (i + 1) l) ≡ some_beats own (take i l) || beats_us own (get_or l i blank_peer)
-  some_next l i h = rw (add-one, take-suc l i blank_peer h, some-append, or-none)
 
 -- ---- who leads at the end
 
 -- a peer that leads leaves the lead only to a peer
-led-peer : (q : Rank) (rs : List Rank) → (m : Mi) × (server_led (leader (By false q) rs) ≡ Elected m)
+led-peer : (q : Rank) (rs : List Rank) → (m : Mi) × (server_led (leader (Some (by_peer q)) rs) ≡ Elected m)
 led-peer q [] = (q.mi, refl)
 led-peer q (r ∷ rs) = by_cases (lower r q) (λ e. rw e (led-peer r rs)) (λ e. rw e (led-peer q rs))
 
@@ -59,16 +40,16 @@ settled-peer true x e = (ap is_theirs e.1, ap is_ours e.1)
 settled-peer false x e = (ap is_theirs e.1, ap is_ours e.1)
 
 module _ (own : Rank) where
-  led-ours : may_lead own.priority ≡ true → (l : List Peer) → Settled true (some_beats own l) (server_led (leader (By true own) (ranks l)))
+  led-ours : may_lead own.priority ≡ true → (l : List Peer) → Settled true (some_beats own l) (server_led (leader (Some (by_us own)) (ranks l)))
   led-ours may [] = (refl, refl)
   led-ours may (p ∷ l) =
       by_cases (eligible p)
       (λ e. rw (e, may)
-      (either_way (λ b. Settled true (b || some_beats own l) (server_led (leader (cond b (By false (rank_of p)) (By true own)) (ranks l))))
+      (either_way (λ b. Settled true (b || some_beats own l) (server_led (leader (cond b (Some (by_peer (rank_of p))) (Some (by_us own))) (ranks l))))
       (settled-peer true _ (led-peer (rank_of p) (ranks l))) (led-ours may l) (lower (rank_of p) own)))
       (λ e. rw e (led-ours may l))
 
-  led-neither : may_lead own.priority ≡ false → (l : List Peer) → Settled false (some_beats own l) (server_led (leader Neither (ranks l)))
+  led-neither : may_lead own.priority ≡ false → (l : List Peer) → Settled false (some_beats own l) (server_led (leader None (ranks l)))
   led-neither may [] = (refl, refl)
   led-neither may (p ∷ l) =
       by_cases (eligible p)

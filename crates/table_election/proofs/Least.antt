@@ -1,28 +1,29 @@
 -- The elected Key Server is the least of those that may be elected, and the only such one.
+use Prim.Native.Nat.{suc}
 use mathlib.Core.Path.{◌≡◌, refl, ap, sym, subst, ◌∙◌}
 use mathlib.Core.Bool.{Bool, true, false, cond, ◌&&◌}
 use mathlib.Core.Logic.{◌⊎◌, inl, inr, ⊎_elim}
 use mathlib.Core.List.Memᴰ
 use mathlib.Core.List.{List, [], ◌∷◌, map, Memᴰ}
+use Rattle.std.specs.Prelude.{Option, Some, None}
 use native.Mathlib.Omega.{arith}
 use lib.ListN.{length}
 use lib.Dec.{eqb}
-use borrow.Author.Tests.{eqb-true, eq-eqb}
+use borrow.Author.Tests.{eqb-true, eq-eqb, ne_eqb}
 use Rattle.base_mi.specs.declared.Mi.{Mi}
 use Rattle.table.specs.declared.Peer.{Peer}
 use Rattle.table.specs.declared.Table.{Table}
 use Rattle.table_election.specs.declared.Rank.{Rank}
 use Rattle.table_election.specs.declared.Lead.{Lead}
-use Rattle.table_election.specs.declared.Lead.TheVariants.{Neither, By}
 use Rattle.table_election.specs.declared.Server.{Server}
 use Rattle.table_election.specs.declared.Server.TheVariants.{Nobody, Ourselves, Elected}
-use Rattle.law_lists.specs.Lists.{those}
+use Rattle.law_lists.specs.Lists.{those, every}
 use Rattle.table.specs.Table.{entries}
-use Rattle.table_lookup.specs.Look.{is_live, held_in, live_for}
+use Rattle.table_lookup.specs.Look.{is_live, is_potential, held_in, live_for}
 use Rattle.table_counts.specs.Counts.{live_count}
 use Rattle.table_election.specs.Elect.{lower, rank_of, Candidate, ourselves, peer_of, may_lead, eligible, contenders, candidates, least, winner, elected}
 use Rattle.table_election.specs.Least.{Least}
-use Rattle.table_election.specs.Lead.{leader, lead_step, ranks, server_led, first_lead}
+use Rattle.table_election.specs.Lead.{by_us, by_peer, leader, led, ranks, server_led, first_lead}
 use Rattle.table_expiry.specs.Kept.{absent, distinct}
 use Rattle.law_lists.proofs.Laws.{by_cases, clash, never, first-of, mem-those, those-mem, mem-map}
 use Rattle.law_kept.specs.Apart.{absent-clash, held-member}
@@ -39,26 +40,27 @@ either_way P a b false = b
 
 -- ---- who leads at the end wins
 
--- one turn of the loop that elects
-pub leader-step : (lead : Lead) (p : Peer) (l : List Peer) → leader lead (ranks (p ∷ l)) ≡ leader (lead_step lead p) (ranks l)
-leader-step lead p l = by_cases (eligible p) (λ e. rw e) (λ e. rw e)
+-- one peer after the other: those that may be elected challenge
+led-ranks : (l : List Peer) (lead : Option Lead) → led lead l ≡ leader lead (ranks l)
+led-ranks [] lead = refl
+led-ranks (p ∷ l) lead = by_cases (eligible p) (λ e. rw e (led-ranks l _)) (λ e. rw e (led-ranks l lead))
 
 -- who leads, as a candidate
-abbrev leading : Bool → Rank → Candidate
-leading ours q = record { who = cond ours Ourselves (Elected q.mi); rank = q }
+abbrev leading : Lead → Candidate
+leading q = record { who = cond q.ours Ourselves (Elected q.rank.mi); rank = q.rank }
 
-led-least : (ours : Bool) (q : Rank) (ps : List Peer) → server_led (leader (By ours q) (map rank_of ps)) ≡ (least (leading ours q) (map peer_of ps)).who
-led-least ours q [] = refl
-led-least ours q (p ∷ ps) =
-    either_way (λ t. server_led (leader (cond t (By false (rank_of p)) (By ours q)) (map rank_of ps)) ≡ (least (cond t (peer_of p) (leading ours q)) (map peer_of ps)).who)
-    (led-least false (rank_of p) ps) (led-least ours q ps) (lower (rank_of p) q)
+led-least : (q : Lead) (ps : List Peer) → server_led (leader (Some q) (map rank_of ps)) ≡ (least (leading q) (map peer_of ps)).who
+led-least q [] = refl
+led-least q (p ∷ ps) =
+    either_way (λ t. server_led (leader (cond t (Some (by_peer (rank_of p))) (Some q)) (map rank_of ps)) ≡ (least (cond t (peer_of p) (leading q)) (map peer_of ps)).who)
+    (led-least (by_peer (rank_of p)) ps) (led-least q ps) (lower (rank_of p) q.rank)
 
-led-peers : (ps : List Peer) → server_led (leader Neither (map rank_of ps)) ≡ winner (map peer_of ps)
+led-peers : (ps : List Peer) → server_led (leader None (map rank_of ps)) ≡ winner (map peer_of ps)
 led-peers [] = refl
-led-peers (p ∷ ps) = led-least false (rank_of p) ps
+led-peers (p ∷ ps) = led-least (by_peer (rank_of p)) ps
 
 pub led-winner : (own : Rank) (l : List Peer) → server_led (leader (first_lead own) (ranks l)) ≡ winner (candidates own l)
-led-winner own l = by_cases (may_lead own.priority) (λ e. rw e (led-least true own (those eligible l))) (λ e. rw e (led-peers (those eligible l)))
+led-winner own l = by_cases (may_lead own.priority) (λ e. rw e (led-least (by_us own) (those eligible l))) (λ e. rw e (led-peers (those eligible l)))
 
 -- ---- the winner is the least
 
@@ -116,7 +118,21 @@ by-server Nobody n o t = n refl
 by-server Ourselves n o t = o refl
 by-server (Elected m) n o t = t m refl
 
+-- none is Live where each is Potential
+none-counted : (l : List Peer) → every is_potential l ≡ eqb (length (those is_live l)) 0
+none-counted [] = refl
+none-counted (p ∷ l) = by_cases p.proven (λ e. rw e (sym (ne_eqb (suc (length (those is_live l))) 0 (λ z. omega arith)))) (λ e. rw e (none-counted l))
+
 module _ (own : Rank) (t : Table) where
+  -- what the code asks, and what it answers then
+  pub elected-none : every is_potential (entries t) ≡ true → elected own t ≡ Nobody
+  unfolding elected live_count
+  elected-none e = rw (sym (none-counted (entries t)) ∙ e)
+
+  pub elected-led : every is_potential (entries t) ≡ false → elected own t ≡ server_led (led (first_lead own) (entries t))
+  unfolding elected live_count
+  elected-led e = rw (sym (none-counted (entries t)) ∙ e, led-ranks (entries t), led-winner own (entries t))
+
   with_none : eqb (live_count t) 0 ≡ true → elected own t ≡ Nobody
   unfolding elected
   with_none e = rw e

@@ -1,5 +1,6 @@
 -- How the election stands, for one that need not know which peer is elected.
-use Rattle.std.specs.Prelude.{Bool, true, false, not, ◌&&◌, ◌||◌, List, [], ◌∷◌}
+use Rattle.std.specs.Prelude.{Bool, true, false, not, ◌&&◌, ◌||◌, List}
+use Rattle.std.specs.List.{list_any}
 use Rattle.table.specs.declared.Peer.{Peer}
 use Rattle.table.specs.declared.Table.{Table}
 use Rattle.table_election.specs.declared.Rank.{Rank}
@@ -37,5 +38,4 @@ beats_us own p = eligible p && (not (may_lead own.priority) || lower (rank_of p)
 
 -- One of these peers beats us.
 abbrev pub some_beats : Rank → List Peer → Bool
-some_beats own [] = false
-some_beats own (p ∷ l) = beats_us own p || some_beats own l
+some_beats own l = list_any (beats_us own) l

@@ -1,17 +1,20 @@
 // Who is Key Server.
 #![tactic(auto)]
 
-ghost use Rattle.std.specs.Prelude.{◌≡◌};
-ghost use Rattle.table_election.specs.Elect.{lower_mi, lower, rank_of, may_lead, eligible, elected};
-ghost use Rattle.table_election.specs.Lead.{challenged, lead_step, server_led, first_lead};
-ghost use Rattle.table_election.specs.Stand.{beats_us, stand_of};
+ghost use Rattle.std.specs.Prelude.{◌≡◌, ◌&&◌, Option, eqb, not};
+ghost use Rattle.law_lists.specs.Lists.{every};
+ghost use Rattle.table.specs.Table.{entries};
+ghost use Rattle.table_lookup.specs.Look.{is_potential};
+ghost use Rattle.table_election.specs.Elect.{rank_of, may_lead, eligible, elected};
+ghost use Rattle.table_election.specs.Lead.{challenged, lead_step, led, server_led, first_lead};
+ghost use Rattle.table_election.specs.Stand.{beats_us, some_beats, stand_of};
 
 use base_mi::Mi;
-use table::{Peer, ROOM, Table};
+use table::{Peer, Table};
 
-// What candidates are compared by.
+// What candidates are compared by, in this order.
 #[repr(C)]
-#[derive(Clone, Copy)]
+#[derive(Clone, Copy, PartialEq, Eq, PartialOrd, Ord)]
 pub struct Rank {
     pub priority: u8,
     pub sci: u64,
@@ -20,59 +23,26 @@ pub struct Rank {
 
 // The best candidate so far: whether it is ourselves, and its rank.
 #[derive(Clone, Copy)]
-enum Lead {
-    Neither,
-    By(bool, Rank),
+struct Lead {
+    ours: bool,
+    rank: Rank,
 }
 
 // Who is Key Server; a peer by its identifier.
-#[derive(Clone, Copy)]
+#[derive(Clone, Copy, PartialEq, Eq)]
 pub enum Server {
     Nobody,
     Ourselves,
     Elected(Mi),
 }
 
-fn lower_mi(a: Mi, b: Mi) -> bool
-    ensures { result ≡ lower_mi a b }
+fn rank_of(p: &Peer) -> Rank
+    ensures { result ≡ rank_of p.now }
 {
-    if a.hi < b.hi {
-        return true;
-    }
-    if b.hi < a.hi {
-        return false;
-    }
-    a.lo < b.lo
-}
-
-fn is_lower(a: Rank, b: Rank) -> bool
-    ensures { result ≡ lower a b }
-{
-    if a.priority < b.priority {
-        return true;
-    }
-    if b.priority < a.priority {
-        return false;
-    }
-    if a.sci < b.sci {
-        return true;
-    }
-    if b.sci < a.sci {
-        return false;
-    }
-    let x = a.mi;
-    let y = b.mi;
-    lower_mi(x, y)
-}
-
-fn rank_of(p: Peer) -> Rank
-    ensures { result ≡ rank_of p }
-{
-    let mi = p.mi;
     Rank {
         priority: p.priority,
         sci: p.sci,
-        mi,
+        mi: p.mi,
     }
 }
 
@@ -83,67 +53,70 @@ fn may_lead(priority: u8) -> bool
     priority != 255
 }
 
-fn is_eligible(p: Peer) -> bool
-    ensures { result ≡ eligible p }
+fn is_eligible(p: &Peer) -> bool
+    ensures { result ≡ eligible p.now }
 {
-    if p.proven {
-        if p.server {
-            return may_lead(p.priority);
-        }
-    }
-    false
+    p.proven && p.server && may_lead(p.priority)
 }
 
-fn challenge(lead: Lead, r: Rank) -> Lead
+fn challenge(lead: Option<Lead>, r: Rank) -> Option<Lead>
     ensures { result ≡ challenged lead r }
 {
-    match lead {
-        Lead::Neither => Lead::By(false, r),
-        Lead::By(_, q) => {
-            if is_lower(r, q) {
-                return Lead::By(false, r);
-            }
-            lead
-        }
-    }
-}
-
-fn lead_step(lead: Lead, p: Peer) -> Lead
-    ensures { result ≡ lead_step lead p }
-{
-    if is_eligible(p) {
-        let r = rank_of(p);
-        return challenge(lead, r);
+    if lead.is_none_or(|q| r < q.rank) {
+        return Some(Lead {
+            ours: false,
+            rank: r,
+        });
     }
     lead
 }
 
-fn server_of(lead: Lead) -> Server
+fn lead_step(lead: Option<Lead>, p: &Peer) -> Option<Lead>
+    ensures { result ≡ lead_step lead p.now }
+{
+    if is_eligible(p) {
+        challenge(lead, rank_of(p))
+    } else {
+        lead
+    }
+}
+
+fn server_of(lead: Option<Lead>) -> Server
     ensures { result ≡ server_led lead }
 {
     match lead {
-        Lead::Neither => Server::Nobody,
-        Lead::By(ours, q) => {
-            if ours {
-                return Server::Ourselves;
-            }
-            let mi = q.mi;
-            Server::Elected(mi)
-        }
+        None => Server::Nobody,
+        Some(q) if q.ours => Server::Ourselves,
+        Some(q) => Server::Elected(q.rank.mi),
     }
 }
 
-fn start(own: Rank) -> Lead
+fn start(own: Rank) -> Option<Lead>
     ensures { result ≡ first_lead own }
 {
-    if may_lead(own.priority) {
-        return Lead::By(true, own);
-    }
-    Lead::Neither
+    may_lead(own.priority).then_some(Lead {
+        ours: true,
+        rank: own,
+    })
+}
+
+// Who leads after all peers.
+fn leader(t: &Table, own: Rank) -> Option<Lead>
+    ensures { result ≡ led (first_lead own) (entries t.now) }
+{
+    t.held()
+        .iter()
+        .fold(start(own), |lead, p| lead_step(lead, p))
+}
+
+fn none_live(t: &Table) -> bool
+    ensures { result ≡ every is_potential (entries t.now) }
+{
+    t.held().iter().all(|p| !p.proven)
 }
 
 // How the election stands: how many peers are Live, whether we are elected, and whether a peer is.
-#[derive(Clone, Copy)]
+#[derive(Clone, Copy, PartialEq, Eq)]
 pub struct Election {
     pub live: usize,
     pub ours: bool,
@@ -151,63 +124,42 @@ pub struct Election {
 }
 
 // Whether this peer would lead before us.
-fn beats(p: Peer, own: Rank) -> bool
-    ensures { result ≡ beats_us own p }
+fn beats(p: &Peer, own: Rank) -> bool
+    ensures { result ≡ beats_us own p.now }
 {
-    if is_eligible(p) {
-        if may_lead(own.priority) {
-            return is_lower(rank_of(p), own);
-        }
-        return true;
-    }
-    false
+    is_eligible(p) && (!may_lead(own.priority) || rank_of(p) < own)
 }
 
-pub fn stand(t: Table, own: Rank) -> Election
-    ensures { result ≡ stand_of own t }
+fn is_beaten(t: &Table, own: Rank) -> bool
+    ensures { result ≡ some_beats own (entries t.now) }
 {
-    let peers = t.peers;
-    let n = base_facts::at_most(t.count, ROOM);
-    let mut live: usize = 0;
-    let mut theirs = false;
-    let mut i: usize = 0;
-    while i < n {
-        let p = peers[i];
-        if p.proven {
-            live += 1;
-        }
-        if beats(p, own) {
-            theirs = true;
-        }
-        i += 1;
-    }
-    let mut ours = false;
-    if 0 < live {
-        if may_lead(own.priority) {
-            ours = !theirs;
-        }
-    }
-    Election { live, ours, theirs }
+    t.held().iter().any(|p| beats(p, own))
 }
 
-pub fn elect(t: Table, own: Rank) -> Server
-    ensures { result ≡ elected own t }
+// Whether we are Key Server: a peer is Live, our priority lets us, and no peer beats us.
+fn leads(own: Rank, live: usize, theirs: bool) -> bool
+    ensures { result ≡ not (eqb live 0) && (may_lead own.priority && not theirs) }
 {
-    let peers = t.peers;
-    let n = base_facts::at_most(t.count, ROOM);
-    let mut lead = start(own);
-    let mut live: usize = 0;
-    let mut i: usize = 0;
-    while i < n {
-        let p = peers[i];
-        lead = lead_step(lead, p);
-        if p.proven {
-            live += 1;
-        }
-        i += 1;
+    0 < live && may_lead(own.priority) && !theirs
+}
+
+pub fn stand(t: &Table, own: Rank) -> Election
+    ensures { result ≡ stand_of own t.now }
+{
+    let live = table_counts::live_count(t);
+    let theirs = is_beaten(t, own);
+    Election {
+        live,
+        ours: leads(own, live, theirs),
+        theirs,
     }
-    if live == 0 {
+}
+
+pub fn elect(t: &Table, own: Rank) -> Server
+    ensures { result ≡ elected own t.now }
+{
+    if none_live(t) {
         return Server::Nobody;
     }
-    server_of(lead)
+    server_of(leader(t, own))
 }

@@ -1,12 +1,11 @@
 -- "An accepted frame enters its MI (at the end of the table) or updates it: MN, SCI, priority, flags, time accepted."
-use Rattle.std.specs.Prelude.{ℕ, ◌+◌, Bool, cond, ◌||◌, List, [], ◌∷◌, set, ltb}
+use Rattle.std.specs.Prelude.{ℕ, Bool, cond, ◌||◌, List, [], ◌∷◌, Option, Some, None, set}
 use Rattle.base_mi.specs.Mi.{mi_same}
 use Rattle.table.specs.declared.Peer.{Peer}
 use Rattle.table.specs.declared.Table.{Table}
 use Rattle.table_lookup.specs.declared.Held.{Held}
-use Rattle.table_lookup.specs.declared.Held.TheVariants.{At, Missing}
 use Rattle.table_enter.specs.declared.Heard.{Heard}
-use Rattle.table.specs.Table.{room, blank_peer, pushed}
+use Rattle.table.specs.Table.{blank_peer, pushed}
 use Rattle.table_lookup.specs.Look.{held_in}
 
 -- "Proof sets the proof time; a frame without one leaves it."
@@ -33,23 +32,14 @@ unfoldable pub replaced : Table → ℕ → Peer → Table
 replaced t at p = record { peers = set t.peers at p; count = t.count }
 
 -- What an update starts from.
-abbrev pub held_peer : Held → Peer
-held_peer (At i p) = p
-held_peer Missing = blank_peer
+abbrev pub held_peer : Option Held → Peer
+held_peer (Some h) = h.peer
+held_peer None = blank_peer
 
 -- The table after a frame whose sender was looked up.
-unfoldable pub entered_at : Held → Heard → Bool → ℕ → Table → Table
-entered_at (At i p) h proves time t = replaced t i (updated p h proves time)
-entered_at Missing h proves time t = pushed t (updated blank_peer h proves time)
-
--- The same as one store: where the entry goes, and how many there are then.
-abbrev pub place_for : Held → ℕ → ℕ
-place_for (At i p) count = i
-place_for Missing count = count
-
-abbrev pub grown_by : Held → ℕ → ℕ
-grown_by (At i p) count = count
-grown_by Missing count = cond (ltb count room) (count + 1) count
+unfoldable pub entered_at : Option Held → Heard → Bool → ℕ → Table → Table
+entered_at (Some old) h proves time t = replaced t old.at (updated old.peer h proves time)
+entered_at None h proves time t = pushed t (updated blank_peer h proves time)
 
 unfoldable pub entered : Heard → Bool → ℕ → Table → Table
 entered h proves time t = entered_at (held_in h.mi t) h proves time t

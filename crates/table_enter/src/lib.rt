@@ -1,11 +1,11 @@
 // What an accepted frame makes of its sender's entry, and where it goes: to the end of the table, or to its place.
 #![tactic(auto)]
 
-ghost use Rattle.std.specs.Prelude.{◌≡◌};
-ghost use Rattle.table_enter.specs.Enter.{held_peer, proof_after, updated, place_for, grown_by};
+ghost use Rattle.std.specs.Prelude.{◌≡◌, Option, set};
+ghost use Rattle.table_enter.specs.Enter.{proof_after, updated, entered_at};
 
 use base_mi::Mi;
-use table::{Peer, ROOM};
+use table::{Peer, ROOM, Table};
 use table_lookup::Held;
 
 // What a frame says of its sender.
@@ -28,12 +28,12 @@ fn proof_after(old: u64, proves: bool, time: u64) -> u64
 }
 
 // The entry that a frame makes of `old`.
+#[tactic(auto, unfolding(crate::specs::Enter::updated))]
 fn update(old: Peer, h: Heard, proves: bool, time: u64) -> Peer
     ensures { result ≡ updated old h proves time }
 {
-    let mi = h.mi;
     Peer {
-        mi,
+        mi: h.mi,
         mn: h.mn,
         sci: h.sci,
         accepted: time,
@@ -42,41 +42,34 @@ fn update(old: Peer, h: Heard, proves: bool, time: u64) -> Peer
         capability: h.capability,
         server: h.server,
         desired: h.desired,
-        proven: base_facts::either(proves, old.proven),
+        proven: proves || old.proven,
     }
 }
 
-// The entry that a frame makes of what looking its sender up gave.
-pub fn anew(held: Held, h: Heard, proves: bool, time: u64) -> Peer
-    ensures { result ≡ updated (held_peer held) h proves time }
+// The slot at a place anew. Past the slots nothing changes.
+#[tactic(auto, using(std::proofs::lemmas::List::set_past))]
+fn put(peers: &mut [Peer], at: usize, p: Peer)
+    ensures { peers.new ≡ set peers.old at p }
 {
-    match held {
-        Held::At(_, p) => update(p, h, proves, time),
-        Held::Missing => update(table::blank(), h, proves, time),
+    if at < peers.len() {
+        peers[at] = p;
     }
 }
 
-// Where that entry goes: to its place, or to the end of `count` entries.
-pub fn place(held: Held, count: usize) -> usize
-    ensures { result ≡ place_for held count }
+// The table after a frame whose sender was looked up: its entry anew, or one more at the end. A full table stays as it is.
+#[tactic(auto, unfolding(crate::specs::Enter::entered_at, crate::specs::Enter::replaced, table::specs::Table::pushed))]
+pub fn enter(t: &mut Table, held: Option<Held>, h: Heard, proves: bool, time: u64)
+    ensures { t.new ≡ entered_at held h proves time t.old }
 {
     match held {
-        Held::At(i, _) => i,
-        Held::Missing => count,
-    }
-}
-
-// How many entries there are then, of at most 16.
-pub fn grown(held: Held, count: usize) -> usize
-    ensures { result ≡ grown_by held count }
-{
-    match held {
-        Held::At(_, _) => count,
-        Held::Missing => {
-            if count < ROOM {
-                return count + 1;
+        Some(Held { at, peer }) => {
+            put(&mut t.peers, at, update(peer, h, proves, time));
+        }
+        None => {
+            if t.count < ROOM {
+                t.peers[t.count] = update(table::blank(), h, proves, time);
+                t.count += 1;
             }
-            count
         }
     }
 }

@@ -1,10 +1,10 @@
 -- Expiry, as a law of the list of entries.
-use Prim.Native.Nat.{ℕ, ◌+◌, ◌-◌, ◌≤◌, min}
+use Prim.Native.Nat.{ℕ, zero, suc, ◌+◌, ◌-◌, ◌≤◌, min}
 use mathlib.Core.Path.{◌≡◌, refl, ap, sym, ◌∙◌}
 use mathlib.Core.Bool.{true, false, not}
 use mathlib.Core.List.{List, [], ◌∷◌, ◌++◌, append_assoc, append-nil}
 use native.Mathlib.Omega.{arith}
-use lib.ListN.{length, drop, replicate, length-take, take-append-drop, replicate-append-replicate}
+use lib.ListN.{length, take, drop, replicate, length-take, replicate-append-replicate}
 use lib.Seq.{take_at, drop_at}
 use borrow.Author.Tests.{ltb-false, le-ltb, lt-ltb, not-true}
 use Rattle.table.specs.declared.Peer.{Peer}
@@ -45,12 +45,19 @@ whole-tidy t tidy = ap (λ (u : Table). length u.peers) tidy ∙ length-pad 16 b
 pub count-tidy : (t : Table) → Tidy t → t.count ≡ length (entries t)
 count-tidy t tidy = ap (λ (u : Table). u.count) tidy
 
--- the table with its count taken as at most 16
+pub taken_again : (m : ℕ) (l : List Peer) → take (length (take m l)) l ≡ take m l
+taken_again zero l = refl
+taken_again (suc m) [] = refl
+taken_again (suc m) (p ∷ l) = ap (λ (r : List Peer). p ∷ r) (taken_again m l)
+
+-- the table with the number of its entries as its count
 abbrev pub counted : Table → Table
-counted t = record { peers = t.peers; count = min t.count room }
+counted t = record { peers = t.peers; count = length (entries t) }
 
 pub entries-counted : (t : Table) → entries (counted t) ≡ entries t
-entries-counted t = let e : min (min t.count 16) 16 ≡ min t.count 16 = omega arith in rw e
+entries-counted t =
+    let e : min (length (entries t)) 16 ≡ length (entries t) = omega (arith, at-most-16 t) in
+    rw (e, taken_again (min t.count room) t.peers)
 
 pub entries-empty : entries empty_table ≡ []
 unfolding empty_table
@@ -116,12 +123,16 @@ entries-refilled t l h =
     let e : min (length l) 16 ≡ length l = omega (arith, at-most-16 t) in
     rw (e, append_assoc) (take_at l _ (length l) refl)
 
+taken_and_dropped : (m : ℕ) (l : List Peer) → take m l ++ drop (length (take m l)) l ≡ l
+taken_and_dropped zero l = refl
+taken_and_dropped (suc m) [] = refl
+taken_and_dropped (suc m) (p ∷ l) = ap (λ (r : List Peer). p ∷ r) (taken_and_dropped m l)
+
 -- with its own it is the same
-refilled_own : (t : Table) → length t.peers ≡ 16 → refilled t (entries t) ≡ counted t
-refilled_own t whole =
-    let e = length-entries t whole in
-    let none : min t.count 16 - min t.count 16 ≡ 0 = omega arith in
-    rw (e, none, append-nil, take-append-drop (min t.count 16) t.peers)
+refilled_own : (t : Table) → refilled t (entries t) ≡ counted t
+refilled_own t =
+    let none : length (entries t) - length (entries t) ≡ 0 = omega arith in
+    rw (none, append-nil, taken_and_dropped (min t.count room) t.peers)
 
 -- with fewer, and then fewer again
 refilled-twice : (t : Table) (l m : List Peer) → length l ≤ length (entries t) → length m ≤ length l → refilled (refilled t l) m ≡ refilled t m
@@ -145,10 +156,10 @@ pub entries-expired : (time : ℕ) (t : Table) → entries (expired time t) ≡ 
 unfolding expired
 entries-expired time t = entries-refilled t (aged_list time (entries t)) (length-aged time (entries t))
 
--- a table in which nothing expires comes back as it is, a count above 16 as 16
-pub expired-steady : (time : ℕ) (t : Table) → length t.peers ≡ 16 → steady_in time (entries t) ≡ true → expired time t ≡ counted t
+-- a table in which nothing expires comes back as it is, with the number of its entries as its count
+pub expired-steady : (time : ℕ) (t : Table) → steady_in time (entries t) ≡ true → expired time t ≡ counted t
 unfolding expired
-expired-steady time t whole e = ap (refilled t) (steady-aged time (entries t) e) ∙ refilled_own t whole
+expired-steady time t e = ap (refilled t) (steady-aged time (entries t) e) ∙ refilled_own t
 
 pub expired-counted : (time : ℕ) (t : Table) → expired time (counted t) ≡ expired time t
 unfolding expired

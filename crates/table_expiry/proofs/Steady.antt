@@ -1,16 +1,11 @@
--- Whether something expires, asked of one entry after the other by one comparison each.
-use Prim.Native.Nat.{ℕ, ◌+◌, ◌-◌, ◌≤◌, ◌<◌, min}
-use mathlib.Core.Path.{◌≡◌, refl}
-use mathlib.Core.Bool.{Bool, true, false, not, ◌&&◌, ◌||◌}
-use mathlib.Core.List.{List}
-use native.Mathlib.Omega.{arith}
-use lib.ListN.{length, get_or, take, drop}
-use lib.Dec.{leb}
+-- Whether something expires, asked of one entry after the other by one comparison for each time.
+use Rattle.std.specs.Prelude.{ℕ, ◌-◌, ◌≡◌, refl, Bool, true, false, not, ◌&&◌, ◌||◌, List, [], ◌∷◌, leb}
+use Rattle.std.proofs.Common.{arith}
 use borrow.Author.Tests.{lt-ltb, le-ltb, leb-true, leb-false}
 use Rattle.table.specs.declared.Peer.{Peer}
-use Rattle.table.specs.Table.{blank_peer}
+use Rattle.law_lists.specs.Lists.{every}
 use Rattle.table_expiry.specs.Expiry.{life_time, fresh_at, still_peer, steady_in, oldest_at, still_from}
-use Rattle.law_lists.proofs.Laws.{by_cases, loop-next, drop-end}
+use Rattle.law_lists.proofs.Laws.{by_cases}
 
 -- less than a life time old is not from before the oldest such time
 pub fresh-from : (time at : ℕ) → leb (oldest_at time) at ≡ fresh_at time at
@@ -25,22 +20,20 @@ still-from time p =
     (λ e. rw (e, fresh-from time p.accepted, fresh-from time p.proof) (by_cases (fresh_at time p.proof) (λ f. rw f) (λ f. rw f)))
     (λ e. rw (e, fresh-from time p.accepted))
 
+pub steady-from : (time : ℕ) (l : List Peer) → every (still_from (oldest_at time)) l ≡ steady_in time l
+steady-from time [] = refl
+steady-from time (p ∷ l) = rw (still-from time p, steady-from time l)
+
 -- nothing has expired so far, nor does of those left
 abbrev pub steady_so_far : ℕ → Bool → List Peer → Bool
 steady_so_far time expires left = not expires && steady_in time left
 
-one_more : (expires f s : Bool) → (not (expires || not f) && s) ≡ (not expires && (f && s))
-one_more true f s = refl
-one_more false f s = by_cases f (λ e. rw e) (λ e. rw e)
+-- one turn of a loop that looks for one that expires
+pub steady-turn : (time : ℕ) (expires : Bool) (p : Peer) (left : List Peer)
+    → steady_so_far time (expires || not (still_from (oldest_at time) p)) left ≡ steady_so_far time expires (p ∷ left)
+steady-turn time true p left = refl
+steady-turn time false p left = rw (still-from time p) (by_cases (still_peer time p) (λ e. rw e) (λ e. rw e))
 
-module _ (n : ℕ) (l : List Peer) (count : ℕ) (whole : length l ≡ 16) (few : n ≡ min count 16) (time : ℕ) where
-  -- one turn
-  pub steady-turn : (expires : Bool) (i : ℕ) → i < n
-      → steady_so_far time (expires || not (still_from (oldest_at time) (get_or l i blank_peer))) (drop (i + 1) (take n l)) ≡ steady_so_far time expires (drop i (take n l))
-  steady-turn expires i lt =
-      rw (loop-next n i l count blank_peer whole few lt, still-from time (get_or l i blank_peer))
-      (one_more expires (still_peer time (get_or l i blank_peer)) (steady_in time (drop (i + 1) (take n l))))
-
-  -- after the last one
-  pub steady-end : (expires : Bool) (i : ℕ) → n ≤ i → steady_so_far time expires (drop i (take n l)) ≡ not expires
-  steady-end expires i end = rw (drop-end n i l end) (by_cases expires (λ e. rw e) (λ e. rw e))
+pub steady-end : (time : ℕ) (expires : Bool) → steady_so_far time expires [] ≡ not expires
+steady-end time true = refl
+steady-end time false = refl

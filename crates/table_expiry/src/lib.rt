@@ -3,9 +3,11 @@
 #![tactic(auto)]
 
 ghost use Rattle.std.specs.Prelude.{◌≡◌};
+ghost use Rattle.law_lists.specs.Lists.{every};
+ghost use Rattle.table.specs.Table.{entries};
 ghost use Rattle.table_expiry.specs.Expiry.{fresh_at, lapsed, aged_peer, expired, oldest_at, still_from};
 
-use table::{Peer, ROOM, Table};
+use table::{Peer, Table};
 
 // The life time in milliseconds.
 const LIFE: u64 = 6000;
@@ -14,88 +16,72 @@ const LIFE: u64 = 6000;
 pub fn fresh(time: u64, at: u64) -> bool
     ensures { result ≡ fresh_at time at }
 {
-    if time <= at {
-        return true;
-    }
-    time - at < LIFE
+    time.saturating_sub(at) < LIFE
 }
 
 // Whether there is a proof and it is old.
-fn lapse(p: Peer, time: u64) -> bool
-    ensures { result ≡ lapsed time p }
+fn lapse(p: &Peer, time: u64) -> bool
+    ensures { result ≡ lapsed time p.now }
 {
-    if p.proven {
-        return !fresh(time, p.proof);
-    }
-    false
+    p.proven && !fresh(time, p.proof)
 }
 
 // The entry, without its proof where that is old.
 fn aged(p: Peer, time: u64) -> Peer
     ensures { result ≡ aged_peer time p }
 {
-    if lapse(p, time) {
-        let mut q = p;
-        q.proof = 0;
-        q.proven = false;
-        return q;
+    if lapse(&p, time) {
+        Peer {
+            proof: 0,
+            proven: false,
+            ..p
+        }
+    } else {
+        p
     }
-    p
 }
 
 // The earliest time that is less than a life time before `time`.
 pub fn oldest(time: u64) -> u64
     ensures { result ≡ oldest_at time }
 {
-    if time < LIFE {
-        return 0;
-    }
-    time - (LIFE - 1)
+    time.saturating_sub(LIFE - 1)
 }
 
 // Whether nothing of the entry is from before `from`.
-pub fn still_from(p: Peer, from: u64) -> bool
-    ensures { result ≡ still_from from p }
+pub fn still_from(p: &Peer, from: u64) -> bool
+    ensures { result ≡ still_from from p.now }
 {
-    if p.accepted < from {
-        return false;
-    }
-    if p.proven {
-        return from <= p.proof;
-    }
-    true
+    from <= p.accepted && (!p.proven || from <= p.proof)
+}
+
+// Whether nothing of the table is old, by one comparison for each time.
+fn is_steady(t: &Table, time: u64) -> bool
+    ensures { result ≡ every (still_from (oldest_at time)) (entries t.now) }
+{
+    let from = oldest(time);
+    t.held().iter().all(|p| still_from(p, from))
 }
 
 // Where nothing expires only the count may be another: one above 16 is 16. Else the entries that stay move up, without what is old
 // of them, and what they leave is blank.
-pub fn expire(t: Table, time: u64) -> Table
-    ensures { result ≡ expired time t }
+pub fn expire(t: &mut Table, time: u64)
+    ensures { t.new ≡ expired time t.old }
 {
-    let mut u = t;
-    let n = base_facts::at_most(u.count, ROOM);
-    let from = oldest(time);
-    let mut expires = false;
-    let mut i: usize = 0;
-    while i < n {
-        let p = u.peers[i];
-        expires = base_facts::either(expires, !still_from(p, from));
-        i += 1;
+    let n = t.held().len();
+    if is_steady(t, time) {
+        t.count = n;
+        return;
     }
-    if !expires {
-        u.count = n;
-        return u;
-    }
-    let mut k: usize = 0;
-    i = 0;
-    while i < n {
-        let p = u.peers[i];
-        u.peers[i] = table::blank();
+    // by index: the entries move within one array
+    let mut k = 0;
+    for i in 0..n {
+        let p = t.peers[i];
+        t.peers[i] = table::blank();
         if fresh(time, p.accepted) {
-            u.peers[k] = aged(p, time);
+            t.peers[k] = aged(p, time);
             k += 1;
         }
-        i += 1;
     }
-    u.count = k;
-    u
+    t.count = k;
 }

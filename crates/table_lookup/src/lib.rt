@@ -1,108 +1,83 @@
 // Looking an identifier up in the table, once: what a call asks of it is asked of the answer.
 #![tactic(auto)]
 
-ghost use Rattle.std.specs.Prelude.{◌≡◌};
+ghost use Rattle.std.specs.Prelude.{◌≡◌, Option};
 ghost use Rattle.table_lookup.specs.Look.{held_in, first_at, found_at, stale_for, no_room_for, live_for, potential_for, becomes_live};
 
 use base_mi::Mi;
 use table::{Peer, ROOM, Table};
 
-// The entry of an identifier and its place, if there is one.
-#[derive(Clone, Copy)]
-pub enum Held {
-    At(usize, Peer),
-    Missing,
+// An identifier's entry and its place.
+#[derive(Clone, Copy, PartialEq, Eq)]
+pub struct Held {
+    pub at: usize,
+    pub peer: Peer,
 }
 
 // The first entry of this identifier.
-pub fn look(t: Table, m: Mi) -> Held
-    ensures { result ≡ held_in m t }
+#[tactic(auto, unfolding(crate::specs::Look::held_in))]
+pub fn look(t: &Table, m: Mi) -> Option<Held>
+    ensures { result ≡ held_in m t.now }
 {
-    let n = base_facts::at_most(t.count, ROOM);
-    let mut i: usize = 0;
-    while i < n {
-        let p = t.peers[i];
-        let q = p.mi;
-        if base_mi::same_mi(m, q) {
-            return Held::At(i, p);
-        }
-        i += 1;
-    }
-    Held::Missing
-}
-
-// The place of the first entry of an identifier, n where there is none: one more entry is looked at, that at `i`.
-pub fn first(at: usize, n: usize, i: usize, m: Mi, p: Peer) -> usize
-    ensures { result ≡ first_at at n i m p }
-{
-    if at == n {
-        let q = p.mi;
-        if base_mi::same_mi(m, q) {
-            return i;
+    for (at, p) in t.held().iter().enumerate() {
+        if m == p.mi {
+            return Some(Held { at, peer: *p });
         }
     }
-    at
+    None
 }
 
-// What the place that `first` came to tells, where `p` is the entry there.
-pub fn found(at: usize, n: usize, p: Peer) -> Held
-    ensures { result ≡ found_at at n p }
+// The place of the first entry of an identifier, if there is one so far: one more entry is looked at, that at `i`.
+pub fn first(at: Option<usize>, i: usize, m: Mi, p: &Peer) -> Option<usize>
+    ensures { result ≡ first_at at i m p.now }
 {
-    if at == n {
-        return Held::Missing;
+    if at.is_none() && m == p.mi {
+        Some(i)
+    } else {
+        at
     }
-    Held::At(at, p)
+}
+
+// What the place that `first` came to tells.
+pub fn found(at: Option<usize>, t: &Table) -> Option<Held>
+    ensures { result ≡ found_at at t.now }
+{
+    let at = at?;
+    let peer = *t.held().get(at)?;
+    Some(Held { at, peer })
 }
 
 // Fact 11, of a frame with this message number.
-pub fn stale(held: Held, mn: u32) -> bool
+pub fn stale(held: Option<Held>, mn: u32) -> bool
     ensures { result ≡ stale_for held mn }
 {
-    if mn == 0 {
-        return true;
-    }
-    match held {
-        Held::At(_, p) => mn <= p.mn,
-        Held::Missing => false,
-    }
+    mn == 0 || held.is_some_and(|h| mn <= h.peer.mn)
 }
 
 // Fact 12.
-pub fn no_room(held: Held, t: Table) -> bool
-    ensures { result ≡ no_room_for held t }
+pub fn no_room(held: Option<Held>, t: &Table) -> bool
+    ensures { result ≡ no_room_for held t.now }
 {
-    match held {
-        Held::At(_, _) => false,
-        Held::Missing => ROOM <= t.count,
-    }
+    held.is_none() && ROOM <= t.count
 }
 
 // Whether what was looked up is held and Live.
-pub fn live(held: Held) -> bool
+pub fn live(held: Option<Held>) -> bool
     ensures { result ≡ live_for held }
 {
-    match held {
-        Held::At(_, p) => p.proven,
-        Held::Missing => false,
-    }
+    held.is_some_and(|h| h.peer.proven)
 }
 
 // Whether it is held and Potential.
-pub fn potential(held: Held) -> bool
+pub fn potential(held: Option<Held>) -> bool
     ensures { result ≡ potential_for held }
 {
-    match held {
-        Held::At(_, p) => !p.proven,
-        Held::Missing => false,
-    }
+    held.is_some_and(|h| !h.peer.proven)
 }
 
 // Whether a frame takes its sender from not Live to Live.
-pub fn becomes_live(held: Held, proves: bool) -> bool
+pub fn becomes_live(held: Option<Held>, proves: bool) -> bool
     ensures { result ≡ becomes_live held proves }
 {
-    if proves {
-        return !live(held);
-    }
-    false
+    proves && !live(held)
 }

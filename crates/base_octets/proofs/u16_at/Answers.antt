@@ -1,6 +1,7 @@
-use Rattle.base_octets.proofs.Laws.{be_at-lt}
-use native.Mathlib.Omega.{arith}
+use Rattle.std.proofs.Common.{arith, lit<}
+use Rattle.base_octets.specs.Number.{be_at}
 use Rattle.base_octets.proofs.u16_at.Goals as goal
 
-pub overflow_cast-result : goal.overflow_cast-result
-overflow_cast-result c = omega (arith, be_at-lt c.args.s.now c.args.at 2 c.type_inv.s)
+pub returns : goal.returns
+unfolding be_at
+returns c = let e = c.octets.ensures in omega (arith, c.from_be_bytes.ensures, e 0 (lit< tt), e 1 (lit< tt))

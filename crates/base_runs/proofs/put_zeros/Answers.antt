@@ -1,12 +1,16 @@
-use mathlib.Core.Path.{sym, ◌∙◌}
-use lib.ListN.{replicate}
-use Rattle.base_octets.proofs.Laws as laws
-use borrow.Author.Rules.{rules}
-use native.Mathlib.Omega.{arith}
+use Rattle.std.proofs.Common.{ℕ, arith, sym, ◌∙◌, ◌≡◌, ◌+◌, ◌-◌, replicate, length, take, drop, length-drop, length-take-le}
+use Rattle.std.proofs.lemmas.List.{length-replicate, take-replicate}
+use Rattle.base_octets.proofs.Laws.{sets-out, sets_short}
 use Rattle.base_runs.proofs.put_zeros.Goals as goal
 
-pub returns-then-out-at : goal.returns-then-out-at
-returns-then-out-at c = let a = c.args in sym (laws.sets-out a.out.now (replicate a.n 0) a.at c.if-out-at.true)
+pub returns-then-at-out : goal.returns-then-at-out
+returns-then-at-out c =
+    let a = c.args in
+    let m = c.min.result in
+    let k : a.at + m - a.at ≡ m = omega arith in
+    let len : length (take (a.at + m - a.at) (drop a.at a.out.now)) ≡ m = length-take-le _ (drop a.at a.out.now) (omega (arith, length-drop a.at a.out.now)) ∙ k in
+    sets_short _ _ (replicate a.n 0) a.at _ m (omega arith) k (omega (arith, length-replicate {A = ℕ} a.n 0))
+    (c.fill.ensures.after (λ y e. e) ∙ rw (len, take-replicate {X = ℕ} m a.n 0 (omega arith)))
 
-pub loop-i-preserved : goal.loop-i-preserved
-loop-i-preserved c = let a = c.args in let l = c.loop-i in (omega arith, search rules, laws.zeros-step l.out c.put_octet.new.out a.at l.i a.n c.loop-i-test.true c.put_octet.ensures ∙ l.invariant.2)
+pub returns-else-at-out : goal.returns-else-at-out
+returns-else-at-out c = sym (sets-out c.args.out.now (replicate c.args.n 0) c.args.at c.if-at-out.false)

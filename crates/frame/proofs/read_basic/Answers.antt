@@ -1,24 +1,12 @@
-use mathlib.Core.Path.{sym, ◌∙◌}
+use Rattle.std.proofs.Common.{sym, ◌∙◌, ◌≡◌, Err, rules}
 use Rattle.frame.specs.Basic.{basic_of}
-use Rattle.frame.proofs.Laws.{length-short, length-octets, answer-refused, answer-read}
+use Rattle.frame.proofs.Laws.{length-octets, told_refused}
 use Rattle.frame.proofs.read_basic.Goals as goal
 
-pub returns-in_default : goal.returns-in_default
+pub returns-in_err-wrong : goal.returns-in_err-wrong
 unfolding basic_of
-returns-in_default c = rw (length-short c.args.frame.now (sym c.body_length.ensures ∙ c.in_default.is))
-
-pub returns-then-x-ne0 : goal.returns-then-x-ne0
-unfolding basic_of
-returns-then-x-ne0 c =
+returns-in_err-wrong c =
     let s = c.args.frame.now in
-    let l = length-octets s _ (sym c.body_length.ensures ∙ c.in-Octets.is) in
-    rw (l.0, l.1, ← c.basic_length-n.ensures)
-    (answer-refused c.wrong-x.result _ _ c.wrong-x.ensures c.if-x-ne0.true)
-
-pub returns : goal.returns
-unfolding basic_of
-returns c =
-    let s = c.args.frame.now in
-    let l = length-octets s _ (sym c.body_length.ensures ∙ c.in-Octets.is) in
-    rw (l.0, l.1, ← c.basic_length-n.ensures)
-    (answer-read c.wrong-x.result _ c.basic_fields.result _ c.wrong-x.ensures c.if-x-ne0.false c.basic_fields.ensures)
+    let l = length-octets s _ (sym c.body_length.ensures ∙ c.in-Some.is) in
+    let e : c.from_residual.result ≡ Err c.in_err-wrong.field-0.0 = search rules in
+    rw (e, l.0, l.1, ← c.basic_length-n.ensures) (sym (told_refused _ _ _ _ (sym c.in_err-wrong.ensures)))

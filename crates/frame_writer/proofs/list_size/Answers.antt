@@ -1,18 +1,11 @@
-use Prim.Native.Nat.{min}
-use mathlib.Core.Path.{◌≡◌}
-use native.Mathlib.Omega.{arith}
-use borrow.Author.Tests.{ne_eqb}
+use Rattle.std.proofs.Common.{arith, ne_eqb, ◌≡◌, min}
 use Rattle.frame_writer.specs.Frame.{list_size}
 use Rattle.frame_writer.proofs.list_size.Goals as goal
 
-pub returns-then-n-eq0 : goal.returns-then-n-eq0
+pub returns-in-0 : goal.returns-in-0
 unfolding list_size
-returns-then-n-eq0 c =
-    let e : min c.args.count 16 ≡ 0 = omega (arith, c.at_most-n.ensures, c.if-n-eq0.true) in
-    (rw e, omega arith)
+returns-in-0 c = let e : min c.args.count 16 ≡ 0 = omega arith in (rw e, omega arith)
 
-pub returns : goal.returns
+pub returns-in_default : goal.returns-in_default
 unfolding list_size
-returns c =
-    let n : min c.args.count 16 ≡ 0 → ⊥ = omega (arith, c.at_most-n.ensures, c.if-n-eq0.false) in
-    (rw (ne_eqb _ _ n) (omega (arith, c.at_most-n.ensures)), omega (arith, c.at_most-n.ensures))
+returns-in_default c = let n : min c.args.count 16 ≡ 0 → ⊥ = omega arith in (rw (ne_eqb _ _ n) (omega arith), omega arith)

@@ -7,5 +7,5 @@ pub returns : goal.returns
 returns c =
     let a = c.args in (
       c.put_basic.ensures.0,
-      sets-two _ _ _ 0 4 (header_octets a.body) (basic_octets a.x) (length-header a.body) c.put_header.ensures c.put_basic.ensures.1,
+      sets-two _ _ _ 0 4 (header_octets a.body) (basic_octets a.x.now) (length-header a.body) c.put_header.ensures c.put_basic.ensures.1,
     )

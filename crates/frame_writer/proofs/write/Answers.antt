@@ -1,80 +1,56 @@
-use Prim.Native.Nat.{ℕ, ◌-◌, ◌≤◌, ◌<◌}
-use mathlib.Core.Path.{◌≡◌, ap, sym, ◌∙◌}
-use mathlib.Core.List.{◌++◌}
-use native.Mathlib.Omega.{arith}
-use lib.Seq.{sets}
-use lib.ListN.{length}
-use lib.Dec.{ltb}
-use borrow.Author.Tests.{ltb-true, ltb-false, lt-ltb, le-ltb}
-use borrow.Author.Rules.{rules}
+use Rattle.std.proofs.Common.{◌≡◌, ◌-◌, ◌≤◌, ◌<◌, ltb-true, ltb-false, lt-ltb, le-ltb, sym, ◌∙◌, length, arith, rules}
 use Rattle.base_facts.proofs.Laws.{check-failed, check-passed}
 use Rattle.base_octets.specs.Run.{written}
 use Rattle.base_octets.proofs.Stores.{sets-whole}
-use Rattle.frame_writer.specs.Frame.{header_octets, basic_octets, body_octets, frame_size, frame_of}
-use Rattle.frame_writer.proofs.Laws.{unmapped, basic-le, entries-le, length-frame, frame-sized, size-bounds}
+use Rattle.frame_writer.specs.Frame.{body_octets, frame_of}
+use Rattle.frame_writer.proofs.Laws.{basic-le, entries-le, length-frame, frame-sized, size-bounds, unmapped, Wrapped}
 use Rattle.frame_writer.proofs.Stores.{stored}
+use Rattle.frame_writer.proofs.write.Goals.{After-frame_size-total}
 use Rattle.frame_writer.proofs.write.Goals as goal
+
+-- the length that was computed is the frame's
+sized : (c : After-frame_size-total) → c.frame_size-total.result ≡ length (frame_of c.args.m)
+sized c =
+    let m = c.args.m in
+    let a : length m.sender.ckn ≡ 32 = search rules in
+    let b : length m.live.entries ≡ 16 = search (rules, unmapped) in
+    let d : length m.potential.entries ≡ 16 = search (rules, unmapped) in
+    let w : Wrapped m.sak = search rules in
+    rw (frame-sized m a b d w, ← c.is_some.ensures, ← c.is_some-2.ensures) c.frame_size-total.ensures
+
+bounded : (c : After-frame_size-total) → (52 ≤ c.frame_size-total.result) × (c.frame_size-total.result < 1024)
+bounded c = rw c.frame_size-total.ensures (size-bounds _ _ _ _ _)
 
 pub returns-in_default : goal.returns-in_default
 unfolding written
 returns-in_default c =
-    let a = c.args in
-    let held : length a.out.now < c.frame_size-total.result = ltb-true _ _ (check-failed (ltb (length a.out.now) c.frame_size-total.result) (sym c.fail_if.ensures ∙ c.in_default.is)) in
-    let short : length a.out.now < length (frame_of a.m) = omega (arith, c.frame_size-total.ensures, (let sized : length (frame_of c.args.m) ≡ frame_size c.args.m.sender.size c.args.m.live.count c.args.m.potential.count c.args.m.used c.args.m.distributed = frame-sized c.args.m (let ckn-long : length c.args.m.sender.ckn ≡ 32 = search rules in ckn-long) (let live-long : length c.args.m.live.entries ≡ 16 = search (rules, unmapped) in live-long) (let potential-long : length c.args.m.potential.entries ≡ 16 = search (rules, unmapped) in potential-long) (let wrapped-long : length c.args.m.sak.wrapped ≡ 24 = search rules in wrapped-long) in sized)) in
+    let short : length c.args.out.now < length (frame_of c.args.m) = rw (← sized (goal.at.returns-in_default c).After-frame_size-total) (ltb-true _ _ (check-failed _ (sym c.fail_if.ensures ∙ c.in_default.is))) in
     (rw (lt-ltb _ _ short), rw (lt-ltb _ _ short))
 
 pub overflow_sub-total : goal.overflow_sub-total
-overflow_sub-total c = let b = size-bounds c.args.m.sender.size c.args.m.live.count c.args.m.potential.count c.args.m.used c.args.m.distributed in omega (arith, c.frame_size-total.ensures)
+overflow_sub-total c = omega (arith, bounded (goal.at.overflow_sub-total c).After-frame_size-total)
 
 pub overflow_cast-total : goal.overflow_cast-total
-overflow_cast-total c = let b = size-bounds c.args.m.sender.size c.args.m.live.count c.args.m.potential.count c.args.m.used c.args.m.distributed in record { fits = omega (arith, c.frame_size-total.ensures) }
+overflow_cast-total c = record { fits = omega (arith, bounded (goal.at.overflow_cast-total c).After-frame_size-total) }
 
 pub put_list-b-requires : goal.put_list-b-requires
-put_list-b-requires c =
-    omega (arith, c.put_start-a.ensures.0, basic-le c.args.m.sender)
+put_list-b-requires c = omega (arith, c.put_start-a.ensures.0, basic-le c.args.m.sender)
 
 pub put_list-c-requires : goal.put_list-c-requires
-put_list-c-requires c =
-    let m = c.args.m in
-    omega (
-      arith,
-      c.put_start-a.ensures.0,
-      basic-le m.sender,
-      c.put_list-b.ensures.0,
-      entries-le 1 m.live,
-    )
+put_list-c-requires c = omega (arith, c.put_start-a.ensures.0, basic-le c.args.m.sender, c.put_list-b.ensures.0, entries-le 1 c.args.m.live)
 
 pub overflow_cast-c : goal.overflow_cast-c
 overflow_cast-c c =
     let m = c.args.m in
-    record {
-      fits = omega (
-        arith,
-        c.put_start-a.ensures.0,
-        basic-le m.sender,
-        c.put_list-b.ensures.0,
-        entries-le 1 m.live,
-        c.put_list-c.ensures.0,
-        entries-le 2 m.potential,
-      );
-    }
+    record { fits = omega (arith, c.put_start-a.ensures.0, basic-le m.sender, c.put_list-b.ensures.0, entries-le 1 m.live, c.put_list-c.ensures.0, entries-le 2 m.potential) }
 
 pub returns : goal.returns
 unfolding written
 returns c =
     let m = c.args.m in
-    let l = c.args.out.now in
-    let e : c.frame_size-total.result ≡ length (frame_of m) = c.frame_size-total.ensures ∙ sym (let sized : length (frame_of c.args.m) ≡ frame_size c.args.m.sender.size c.args.m.live.count c.args.m.potential.count c.args.m.used c.args.m.distributed = frame-sized c.args.m (let ckn-long : length c.args.m.sender.ckn ≡ 32 = search rules in ckn-long) (let live-long : length c.args.m.live.entries ≡ 16 = search (rules, unmapped) in live-long) (let potential-long : length c.args.m.potential.entries ≡ 16 = search (rules, unmapped) in potential-long) (let wrapped-long : length c.args.m.sak.wrapped ≡ 24 = search rules in wrapped-long) in sized) in
+    let e = sized (goal.at.returns c).After-frame_size-total in
     let k : c.frame_size-total.result - 4 ≡ length (body_octets m) = omega (arith, length-frame m) in
-    let held : c.frame_size-total.result ≤ length l = ltb-false _ _ (check-passed (ltb (length l) c.frame_size-total.result) (sym c.fail_if.ensures ∙ c.in-Passed.is)) in
-    let room : length (frame_of m) ≤ length l = omega arith in
-    let s =
-    stored l _ _ _ _ m _ _ _
-    c.put_start-a.ensures.0
-    c.put_list-b.ensures.0
-    c.put_list-c.ensures.0
-    (c.put_start-a.ensures.1 ∙ ap (λ (n : ℕ). sets l 0 (header_octets n ++ basic_octets m.sender)) k)
-    c.put_list-b.ensures.1
-    c.put_list-c.ensures.1
-    c.put_end.ensures in
-    (rw (e, le-ltb _ _ room), rw (le-ltb _ _ room) (s ∙ sets-whole (frame_of m) l room))
+    let held : c.frame_size-total.result ≤ length c.args.out.now = ltb-false _ _ (check-passed _ (sym c.fail_if.ensures ∙ c.in-Some.is)) in
+    let room : length (frame_of m) ≤ length c.args.out.now = omega arith in
+    let s = stored _ _ _ _ _ m _ _ _ c.put_start-a.ensures.0 c.put_list-b.ensures.0 c.put_list-c.ensures.0 (rw k at c.put_start-a.ensures.1) c.put_list-b.ensures.1 c.put_list-c.ensures.1 c.put_end.ensures in
+    (rw (e, le-ltb _ _ room), rw (le-ltb _ _ room) (s ∙ sets-whole (frame_of m) c.args.out.now room))

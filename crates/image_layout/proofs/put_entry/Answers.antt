@@ -1,7 +1,8 @@
-use Prim.Native.Nat.{◌+◌}
-use Rattle.image_layout.specs.Layout.{place}
-use Rattle.image_layout.proofs.Laws.{entry-stored}
+use Rattle.std.proofs.Common.{add_assoc, rules}
+use Rattle.base_octets.proofs.Laws.{sets-append, length-be_of}
+use Rattle.image_layout.specs.Layout.{contents_entry}
 use Rattle.image_layout.proofs.put_entry.Goals as goal
 
 pub returns : goal.returns
-returns c = entry-stored _ _ _ _ (place c.args.kind) (c.args.kind + 1) c.args.records c.args.offset c.put_u16.ensures c.put_u16-2.ensures c.put_u32.ensures
+unfolding contents_entry
+returns c = simp (sets-append, length-be_of, add_assoc) (search rules)

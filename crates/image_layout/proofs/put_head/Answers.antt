@@ -1,5 +1,8 @@
-use Rattle.image_layout.proofs.Laws.{head-stored}
+use Rattle.std.proofs.Common.{rules}
+use Rattle.base_octets.proofs.Laws.{sets-append, length-be_of}
+use Rattle.image_layout.specs.Layout.{contents_head}
 use Rattle.image_layout.proofs.put_head.Goals as goal
 
 pub returns : goal.returns
-returns c = head-stored _ _ _ c.args.kinds c.put_u16.ensures c.put_u16-2.ensures
+unfolding contents_head
+returns c = simp (sets-append, length-be_of) (search rules)

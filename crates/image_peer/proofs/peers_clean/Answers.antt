@@ -1,14 +1,12 @@
-use Rattle.image_peer.proofs.Laws.{peers_clean-next, peers_clean-bad, peers_clean-end}
-use Prim.Native.Nat.{◌+◌, ◌*◌}
-use mathlib.Core.Path.{sym, ◌∙◌}
-use native.Mathlib.Omega.{arith}
+use Rattle.std.proofs.Common.{◌+◌, ◌*◌, ℕ, rules, ◌∙◌, arith, tests}
+use Rattle.std.proofs.lemmas.Iterator.{YieldsList-from_range}
+use Rattle.std.proofs.lemmas.Iterator.Search.{all_from_yields_List}
+use Rattle.image_peer.proofs.Laws.{clean_all}
+use Rattle.image_peer.specs.Peer.{peer_clean}
 use Rattle.image_peer.proofs.peers_clean.Goals as goal
 
-pub returns-then-not-peer_clean : goal.returns-then-not-peer_clean
-returns-then-not-peer_clean c = sym (peers_clean-bad c.args.s.now c.args.at c.loop-i.i c.args.n c.loop-i-test.true (sym c.peer_clean.ensures ∙ c.if-not-peer_clean.true)) ∙ c.loop-i.invariant.1
-
-pub loop-i-preserved : goal.loop-i-preserved
-loop-i-preserved c = (omega arith, peers_clean-next c.args.s.now c.args.at c.loop-i.i c.args.n c.loop-i-test.true (sym c.peer_clean.ensures ∙ c.if-not-peer_clean.false) ∙ c.loop-i.invariant.1)
-
 pub returns : goal.returns
-returns c = sym (peers_clean-end c.args.s.now (c.args.at + c.loop-i.i * 44) c.loop-i.i c.args.n (omega arith)) ∙ c.loop-i.invariant.1
+returns c =
+    let a = c.args in
+    all_from_yields_List (λ (k : ℕ). peer_clean a.s.now (a.at + k * 44)) _ _ _ c.all.ensures.ran (YieldsList-from_range 0 a.n a.n (cc) (omega arith)) (λ x b q k. search (rules, tests))
+    ∙ clean_all a.s.now a.at a.n

@@ -1,14 +1,9 @@
-use Prim.Native.Nat.{◌-◌, ◌≤◌}
-use mathlib.Core.Path.{◌≡◌}
-use mathlib.Core.List.{map}
-use lib.ListN.{length, take}
-use Rattle.law_lists.specs.Lists.{those, pad}
-use Rattle.table_counts.specs.Counts.{is_of, entry_of, blank_entry}
+use Rattle.std.proofs.Common.{◌≡◌, ◌≤◌, map, length, take}
+use Rattle.law_lists.specs.Lists.{those}
+use Rattle.table_counts.specs.Counts.{is_of, entry_of, list_of}
 use Rattle.table_counts.proofs.list_of.Given as goal
 
-abbrev pub invariant-loop-i : goal.invariant-loop-i
-invariant-loop-i l =
-    (l.i ≤ l.n) × (l.k ≤ l.i) × (l.k ≡ length (map entry_of (those (is_of l.live) (take l.i l.peers)))) × (l.out ≡ pad 16 blank_entry (map entry_of (those (is_of l.live) (take l.i l.peers))))
-
-abbrev pub decreases-loop-i : goal.decreases-loop-i
-decreases-loop-i l = l.n - l.i
+abbrev pub invariant-loop-p : goal.invariant-loop-p
+invariant-loop-p l =
+    (length l.p-items ≤ 16) × (l.out.count ≤ l.p-index)
+    × (l.out ≡ list_of (map entry_of (those (is_of l.live) (take l.p-index l.p-items))))

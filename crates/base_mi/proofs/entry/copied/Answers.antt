@@ -1,12 +1,8 @@
-use Rattle.base_mi.proofs.Laws as laws
-use Rattle.base_mi.specs.Entry.{cut_at}
-use borrow.Author.Rules.{rules}
-use native.Mathlib.Omega.{arith}
+use Rattle.std.proofs.Common.{arith, ◌+◌, ◌-◌, ◌≡◌, ◌∙◌}
+use Rattle.base_mi.proofs.Laws.{cut-taken}
 use Rattle.base_mi.proofs.entry.copied.Goals as goal
 
-pub loop-i-init : goal.loop-i-init
-unfolding cut_at
-loop-i-init c = search rules
-
-pub loop-i-preserved : goal.loop-i-preserved
-loop-i-preserved c = (omega arith, rw c.loop-i.invariant.1 (laws.cut_step c.args.s.now c.args.at c.loop-i.i 16 c.loop-i-test.true))
+pub returns : goal.returns
+returns c =
+    let n : c.args.at + 16 - c.args.at ≡ 16 = omega arith in
+    c.copy_from_slice.ensures.after ∙ rw n (cut-taken c.args.s.now c.args.at 16 c.requires)

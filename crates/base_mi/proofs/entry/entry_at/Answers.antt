@@ -12,6 +12,6 @@ pub returns : goal.returns
 unfolding entry_at
 returns c = let s = c.args.s.now in
     let at = c.args.at in
-    let mi = c.mi_of.ensures ∙ ap (λ (k : List ℕ). mi_at k 0) c.copied-e.ensures ∙ mi-cut s at in
+    let mi = c.mi_at.ensures ∙ ap (λ (k : List ℕ). mi_at k 0) c.copied-e.ensures ∙ mi-cut s at in
     let mn = c.u32_at.ensures ∙ ap (λ (k : List ℕ). be_at k 12 4) c.copied-e.ensures ∙ be-cut s at 16 12 4 (lit≤ tt) in
     λ i. record { mi = mi i; mn = mn i }

@@ -1,8 +1,8 @@
 use Rattle.base_octets.specs.Number.{be_of}
-use Rattle.base_mi.specs.Mi.{mi_octets}
 use Rattle.base_octets.proofs.Laws.{length-be_of}
-use Rattle.base_mi.proofs.Laws.{length-mi}
 use Rattle.base_octets.proofs.Stores.{sets-three}
+use Rattle.base_mi.specs.Mi.{mi_octets}
+use Rattle.base_mi.proofs.Laws.{length-mi}
 use Rattle.frame_writer.specs.Frame.{use_octets}
 use Rattle.frame_writer.proofs.keys.put_key.Goals as goal
 

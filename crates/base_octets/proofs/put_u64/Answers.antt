@@ -1,0 +1,7 @@
+use Rattle.std.proofs.Common.{ap, ◌∙◌}
+use Rattle.std.proofs.lemmas.List.Edits.{sets}
+use Rattle.base_octets.proofs.Laws.{be_of-bytes}
+use Rattle.base_octets.proofs.put_u64.Goals as goal
+
+pub returns : goal.returns
+returns c = c.put.ensures ∙ ap (sets c.args.out.now c.args.at) (c.to_be_bytes.ensures ∙ be_of-bytes 8 c.args.v)

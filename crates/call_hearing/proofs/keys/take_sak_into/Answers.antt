@@ -1,0 +1,18 @@
+use Rattle.std.proofs.Common.{◌≡◌, ap, ◌∙◌}
+use Rattle.call_hearing.specs.Keys.{Keyed, keyed_of, taken_of}
+use Rattle.call_hearing.proofs.Taken.{keyed_with, keyed-taken}
+use Rattle.call_hearing.proofs.keys.take_sak_into.Goals as goal
+use Rattle.call_hearing.proofs.keys.take_sak_into.Goals.{After-take_sak-taken}
+
+-- what was taken makes of the participant what `keyed_of` says
+taken : (c : After-take_sak-taken) → let a = c.args in keyed_with a.p.now c.take_sak-taken.result ≡ keyed_of a.p.now a.frame.now a.m a.sak
+taken c =
+    let a = c.args in
+    ap (keyed_with a.p.now) (c.take_sak-taken.ensures ∙ (λ i. taken_of (c.server.ensures i) a.p.now.latest a.p.now.old a.frame.now a.m a.sak))
+    ∙ keyed-taken a.p.now a.frame.now a.m a.sak
+
+pub returns-clause-becomes : goal.returns-clause-becomes
+returns-clause-becomes c = ap (λ (k : Keyed). k.participant) (taken (goal.at.returns-clause-becomes c).After-take_sak-taken)
+
+pub returns-clause-wrapped : goal.returns-clause-wrapped
+returns-clause-wrapped c = ap (λ (k : Keyed). k.wrapped) (taken (goal.at.returns-clause-wrapped c).After-take_sak-taken)

@@ -31,7 +31,8 @@ fn clean_records(s: &[u8]) -> bool
 }
 
 // Whether its kinds, their numbers and the octets that are left over are those of an image. An own, a peer's and a key's record
-// have these sizes.
+// have these sizes. Never inline: what the compiler learns of the octets here makes reading the peers dearer (docs/COST.md).
+#[inline(never)]
 fn formed(s: &[u8]) -> bool
     ensures { result ≡ laid_out s.now sizes && (numbers_good s.now && clean s.now) }
 {
@@ -48,18 +49,21 @@ fn hold(p: &Participant) -> bool
         && image_rules_keys::keys_good(p)
 }
 
-// What the image tells is made in place, and judged there (docs/COST.md).
+// What an image of good form tells is made in place, and judged there (docs/COST.md).
 #[tactic(auto, unfolding(crate::specs::Read::told_by, crate::specs::Read::well_formed, crate::specs::Read::read_of))]
 pub fn read(s: &[u8]) -> Called<()>
     ensures { result ≡ read_of s.now }
 {
+    let Some(()) = base_facts::fail_if(!formed(s)) else {
+        return call::refused(call_creation::blank(), Refusal::BadImage);
+    };
     let n = records_at(s, 2);
     let at = offset_at(s, 2);
     let mut p = image_own::own_at(s, offset_at(s, 0));
     image_peer::peers_at(&mut p.table, s, offset_at(s, 1), records_at(s, 1) as usize);
     p.latest = image_key::slot_at(s, at, 0, 0 < n);
     p.old = image_key::slot_at(s, at, 1, 1 < n);
-    let Some(()) = base_facts::fail_if(!formed(s) || !hold(&p)) else {
+    let Some(()) = base_facts::fail_if(!hold(&p)) else {
         return call::refused(call_creation::blank(), Refusal::BadImage);
     };
     call::accepted(p, ())

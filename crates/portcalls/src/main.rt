@@ -2,6 +2,7 @@
 #![tactic(auto)]
 
 mod calls;
+mod input;
 mod listing;
 mod print;
 mod shape;
@@ -9,7 +10,7 @@ mod status;
 
 use crate::print::{Text, put};
 use crate::shape::{Malformed, Op, Place, Wrong};
-use portinput::{Asked, Fault};
+use input::{Asked, Fault};
 use std::io;
 use std::io::Read;
 use std::rt::{Env, Files};
@@ -40,7 +41,7 @@ struct Head {
 impl Head {
     fn read<R: Read>(from: &mut R) -> Head {
         let mut octets = [0u8; 3];
-        let (got, read) = portinput::fill(from, &mut octets);
+        let (got, read) = input::fill(from, &mut octets);
         Head { octets, got, read }
     }
 
@@ -56,7 +57,7 @@ impl Head {
     ) -> Result<(Op, &'a [u8]), Wrong> {
         whole(3, self.got, self.read)?;
         let d = &mut space[..self.len() as usize];
-        let (got, read) = portinput::fill(from, d);
+        let (got, read) = input::fill(from, d);
         whole(d.len(), got, read)?;
         let op = Op::try_from(self.octets[0])?;
         op.check(d)?;
@@ -76,9 +77,9 @@ fn whole(wanted: usize, got: usize, read: io::Result<()>) -> Result<(), Wrong> {
 
 // The input is over where a record would begin.
 fn over<P: Eprint>(rt: &P, read: io::Result<()>, record: u64) -> Result<(), Fault<'static>> {
-    portinput::if_read(read)?;
+    input::if_read(read)?;
     if record == 1 {
-        portinput::complain(rt, PROGRAM, "there are no octets to read");
+        input::complain(rt, PROGRAM, "there are no octets to read");
     }
     Ok(())
 }
@@ -98,12 +99,12 @@ fn run<R: Read, P: Print + Eprint>(rt: &P, from: &mut R) -> Result<(), Fault<'st
             Ok((op, d)) => {
                 out.clear();
                 held = calls::play(held, op, d, &mut out);
-                portinput::if_written(rt.write_all(out.as_str().as_bytes()))?;
+                input::if_written(rt.write_all(out.as_str().as_bytes()))?;
             }
             Err(wrong) => {
                 let at = Place { record, octet };
-                portinput::complain(rt, PROGRAM, Malformed { at, wrong });
-                return portinput::if_written(rt.print("malformed\n"));
+                input::complain(rt, PROGRAM, Malformed { at, wrong });
+                return input::if_written(rt.print("malformed\n"));
             }
         }
         octet = octet.wrapping_add(3 + head.len() as u64);
@@ -115,16 +116,16 @@ fn start<'a, R: Env + Files + Input + Print + Eprint>(
     rt: &R,
     name: &'a mut [u8],
 ) -> Result<(), Fault<'a>> {
-    match portinput::wanted(rt, name)? {
-        Asked::Help => portinput::if_written(rt.print(HELP)),
+    match input::wanted(rt, name)? {
+        Asked::Help => input::if_written(rt.print(HELP)),
         Asked::Input => run(rt, &mut rt.reader()),
-        Asked::File(file) => run(rt, &mut portinput::open(rt, file)?),
+        Asked::File(file) => run(rt, &mut input::open(rt, file)?),
     }
 }
 
 fn main(rt: HostRuntime) {
-    let mut name = [0u8; portinput::NAME];
+    let mut name = [0u8; input::NAME];
     if let Err(fault) = start(&rt, &mut name) {
-        portinput::complain(&rt, PROGRAM, fault);
+        input::complain(&rt, PROGRAM, fault);
     }
 }

@@ -46,11 +46,17 @@ impl Display for Octets<'_> {
     fn fmt<W: fmt::Write>(&self, f: &mut fmt::Formatter<W>) -> fmt::Result {
         f.write_str(self.0)?;
         f.write_str(" ")?;
-        for x in self.1 {
-            write!(f, "{x:02x}")?;
+        for &x in self.1 {
+            f.write_char(digit(x >> 4))?;
+            f.write_char(digit(x))?;
         }
         Ok(())
     }
+}
+
+// The hex digit of an octet's low four bits. By hand: with `{x:02x}` a line of octets takes twice the time.
+fn digit(x: u8) -> char {
+    char::from(b"0123456789abcdef"[(x & 15) as usize])
 }
 
 // A word, and two numbers.

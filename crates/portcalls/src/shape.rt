@@ -1,5 +1,5 @@
 // The ops of a script, whether a record has its op's shape, and what is wrong with one that hasn't.
-use portinput::Fault;
+use crate::input::Fault;
 use std::fmt::Write;
 use std::{fmt, io};
 

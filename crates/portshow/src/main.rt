@@ -5,8 +5,10 @@ ghost use Rattle.std.specs.Prelude.{◌<◌, length, OnOk, IfSome};
 ghost use Rattle.page_shown.specs.Show.{shown_of};
 ghost use Rattle.portshow.specs.Written.{WritesLine};
 
+mod input;
+
+use input::{Asked, Fault};
 use page::line::Line;
-use portinput::{Asked, Fault};
 use std::io;
 use std::io::{Read, Write};
 use std::rt::{Env, Files};
@@ -39,29 +41,29 @@ fn show<R: Read, W: Write, E: Eprint>(
         (λ image. length image < 1025 → WritesLine (W.contents out.old) (W.contents out.new) (shown_of image))) }
 {
     let mut space = [0u8; 1025];
-    let (n, read) = portinput::fill(from, &mut space);
-    portinput::if_read(read)?;
+    let (n, read) = input::fill(from, &mut space);
+    input::if_read(read)?;
     if n == 0 {
-        portinput::complain(rt, PROGRAM, "there are no octets to read");
+        input::complain(rt, PROGRAM, "there are no octets to read");
     }
     let l = page_shown::show(&space[..n]);
-    portinput::if_written(say(out, l))
+    input::if_written(say(out, l))
 }
 
 fn start<'a, R: Env + Files + Input + Print + Eprint>(
     rt: &R,
     name: &'a mut [u8],
 ) -> Result<(), Fault<'a>> {
-    match portinput::wanted(rt, name)? {
-        Asked::Help => portinput::if_written(rt.print(HELP)),
+    match input::wanted(rt, name)? {
+        Asked::Help => input::if_written(rt.print(HELP)),
         Asked::Input => show(rt, &mut rt.reader(), &mut io::writer(rt)),
-        Asked::File(file) => show(rt, &mut portinput::open(rt, file)?, &mut io::writer(rt)),
+        Asked::File(file) => show(rt, &mut input::open(rt, file)?, &mut io::writer(rt)),
     }
 }
 
 fn main(rt: HostRuntime) {
-    let mut name = [0u8; portinput::NAME];
+    let mut name = [0u8; input::NAME];
     if let Err(fault) = start(&rt, &mut name) {
-        portinput::complain(&rt, PROGRAM, fault);
+        input::complain(&rt, PROGRAM, fault);
     }
 }

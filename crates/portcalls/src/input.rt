@@ -1,6 +1,5 @@
-// Where a program's octets come from, and why none come: what portshow and portcalls share.
-#![tactic(auto)]
-
+// Where a program's octets come from, and why none come. The same file in portshow and portcalls: in a library its functions would be public, and what
+// reads and asks the system has no one answer.
 ghost use Rattle.std.specs.Prelude.{◌≡◌, ◌<◌, ◌≤◌, ◌↔◌, length, take, OnOk, IsOk};
 ghost use Rattle.std.specs.Io.KnownBytes.{Consumes, IsAtEnd};
 
@@ -11,11 +10,11 @@ use std::rt::{Env, Files};
 use std::{fmt, fs, io, str};
 
 // The room for a file's name.
-pub const NAME: usize = 1024;
+pub(crate) const NAME: usize = 1024;
 
 // What a program's words ask for: its help, or its work on standard input or on a file.
 #[derive(Clone, Copy)]
-pub enum Asked<'a> {
+pub(crate) enum Asked<'a> {
     Help,
     Input,
     File(&'a str),
@@ -23,7 +22,7 @@ pub enum Asked<'a> {
 
 // Why a program ends before its work is done.
 #[derive(Clone, Copy)]
-pub enum Fault<'a> {
+pub(crate) enum Fault<'a> {
     LongName,
     NoText,
     TwoFiles,
@@ -81,12 +80,12 @@ impl<W: fmt::Write> fmt::Write for Words<'_, W> {
 }
 
 // A program's line on standard error. Nobody can be told where that fails.
-pub fn complain<D: Display + Drop>(rt: &impl Eprint, program: &str, what: D) {
+pub(crate) fn complain<D: Display + Drop>(rt: &impl Eprint, program: &str, what: D) {
     let _ = eprintln!(rt; "{program}: {what}");
 }
 
 // What the words after the program's name ask for. The first of them goes into `name`.
-pub fn wanted<'a, R: Env>(rt: &R, name: &'a mut [u8]) -> Result<Asked<'a>, Fault<'a>> {
+pub(crate) fn wanted<'a, R: Env>(rt: &R, name: &'a mut [u8]) -> Result<Asked<'a>, Fault<'a>> {
     match rt.arg(1, name) {
         Ok(n) => meant(&name[..n], is_given(rt, 2)),
         Err(FillError::NotPresent) => Ok(Asked::Input),
@@ -110,12 +109,12 @@ fn meant(word: &[u8], others: bool) -> Result<Asked<'_>, Fault<'_>> {
     }
 }
 
-pub fn open<'a, R: Files>(rt: &R, name: &'a str) -> Result<R::File, Fault<'a>> {
+pub(crate) fn open<'a, R: Files>(rt: &R, name: &'a str) -> Result<R::File, Fault<'a>> {
     fs::open(rt, name).map_err(|e| Fault::Unopened(name, e))
 }
 
 // What reading came to. A match, here and in `if_written`: a `map_err` gets no proof where the error that it makes names a lifetime.
-pub fn if_read(read: io::Result<()>) -> Result<(), Fault<'static>>
+pub(crate) fn if_read(read: io::Result<()>) -> Result<(), Fault<'static>>
     ensures { IsOk result ↔ IsOk read }
 {
     match read {
@@ -125,7 +124,7 @@ pub fn if_read(read: io::Result<()>) -> Result<(), Fault<'static>>
 }
 
 // What writing came to.
-pub fn if_written(written: io::Result<()>) -> Result<(), Fault<'static>>
+pub(crate) fn if_written(written: io::Result<()>) -> Result<(), Fault<'static>>
     ensures { IsOk result ↔ IsOk written }
 {
     match written {
@@ -136,7 +135,7 @@ pub fn if_written(written: io::Result<()>) -> Result<(), Fault<'static>>
 
 // Reads until the space is full, the input ends or a read fails, and answers how many octets there were, and how the last read went.
 // Both, and no Result of the number: a read may fail behind octets that were there, and a script's record tells whether there were any.
-pub fn fill<R: Read>(from: &mut R, space: &mut [u8]) -> (usize, io::Result<()>)
+pub(crate) fn fill<R: Read>(from: &mut R, space: &mut [u8]) -> (usize, io::Result<()>)
     ensures bound { result.0 ≤ length space.new }
     ensures prefix { result.0 ≡ length (take result.0 space.new) }
     ensures octets { Consumes (R.remaining from.old) (R.remaining from.new) (take result.0 space.new) }

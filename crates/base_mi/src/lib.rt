@@ -14,6 +14,8 @@ pub struct Mi {
     pub lo: u32,
 }
 
+// Always inline: as a call it makes each frame and each image dearer (docs/COST.md).
+#[inline(always)]
 pub fn mi_at(s: &[u8], at: usize) -> Mi
     ensures { result ≡ mi_at s.now at }
 {

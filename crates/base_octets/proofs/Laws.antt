@@ -4,7 +4,7 @@ use mathlib.Core.Path.{◌≡◌, refl, ap, sym, ◌∙◌}
 use mathlib.Core.Logic.{◌≢◌}
 use mathlib.Core.List.{List, [], ◌∷◌, ◌++◌, append_assoc}
 use native.Mathlib.Numerals.{add-one}
-use native.Mathlib.Nat.{pow-suc, pow-succ', div-div-eq-div-mul}
+use native.Mathlib.Nat.{pow-suc, pow-succ', pow-le-pow_right, div-div-eq-div-mul}
 use native.Mathlib.Omega.{arith}
 use native.Mathlib.Nat.{add-zero, add_assoc}
 use lib.ListN.{length, get_or, set, take, drop, replicate, length-append, length-drop, take-append-drop, get_or-eq_default, get_or-append}
@@ -13,14 +13,54 @@ use Rattle.std.specs.Int.{byte_at, bytes_high_first}
 use Rattle.std.proofs.Math.Seq.{length-sets, drop-drop}
 use mathlib.Core.Path.{ap₂}
 use lib.Seq.{sets, sets-eq, drop-cons, take-add, take-suc, set_out, set_comm, get_or-drop, get_or-append-add, get_or-append_seam, length-take-le}
+use lib.Dec.{lit<}
 use Rattle.base_octets.specs.Number.{be_at, be_of}
 use Rattle.base_octets.specs.Octets.{Octets}
+
+pub be_at-zero : (s : List ℕ) (at : ℕ) → be_at s at 0 ≡ 0
+unfolding be_at
+be_at-zero s at = refl
+
+pub be_at-next : (s : List ℕ) (at n : ℕ) → be_at s at (n + 1) ≡ be_at s at n * 256 + get_or s (at + n) 0
+unfolding be_at
+be_at-next s at n = rw add-one
 
 -- n octets make a number below 256 ^ n
 pub be_at-lt : (s : List ℕ) (at n : ℕ) → Octets s → be_at s at n < 256 ^ n
 unfolding be_at
 be_at-lt s at zero h = omega arith
 be_at-lt s at (suc n) h = rw pow-suc (omega (arith, be_at-lt s at n h, (h (at + n)).fits))
+
+-- the same with a bound on the width
+pub be_at-below : (s : List ℕ) (at n m : ℕ) → n ≤ m → Octets s → be_at s at n < 256 ^ m
+be_at-below s at n m le h = omega (arith, be_at-lt s at n h, pow-le-pow_right {n = 256} (lit< tt) le)
+
+-- one octet more still fits 64 bits: what a turn of a loop that reads a number asks
+pub be-turn : (s : List ℕ) (at i n v : ℕ) → n ≤ 8 → i < n → v ≡ be_at s at i → Octets s → v * 256 + get_or s (at + i) 0 < 2 ^ 64
+be-turn s at i n v le lt e h =
+    let le' : i ≤ 7 = omega arith in
+    omega (arith, be_at-below s at i 7 le' h, (h (at + i)).fits)
+
+-- eight octets are two numbers of four
+pub be_at-halves : (s : List ℕ) (at : ℕ) → be_at s at 8 ≡ be_at s at 4 * 4294967296 + be_at s (at + 4) 4
+be_at-halves s at =
+    let e : (k : ℕ) → get_or s (at + 4 + k) 0 ≡ get_or s (at + (4 + k)) 0 = λ k. ap (λ (j : ℕ). get_or s j 0) (add_assoc at 4 k) in
+    omega (
+      arith,
+      be_at-next s at 4,
+      be_at-next s at 5,
+      be_at-next s at 6,
+      be_at-next s at 7,
+      be_at-zero s (at + 4),
+      be_at-next s (at + 4) 0,
+      be_at-next s (at + 4) 1,
+      be_at-next s (at + 4) 2,
+      be_at-next s (at + 4) 3,
+      e 0,
+      e 1,
+      e 2,
+      e 3,
+    )
 
 -- past the end the number is 0
 pub be_at-out : (s : List ℕ) (at n : ℕ) → length s ≤ at → be_at s at n ≡ 0

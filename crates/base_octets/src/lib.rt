@@ -18,8 +18,9 @@ fn cut<const N: usize>(s: &[u8], at: usize) -> [u8; N]
 {
     let mut a = [0; N];
     if at < s.len() {
-        let n = N.min(s.len() - at);
-        a[..n].copy_from_slice(&s[at..at + n]);
+        for i in 0..N {
+            a[i] = octet(s, at + i);
+        }
     }
     a
 }

@@ -11,10 +11,11 @@ use Rattle.std.specs.Prelude.{Some, None}
 use Rattle.base_mi.specs.Mi.{mi_same}
 use Rattle.base_mi.specs.declared.Mi.{Mi}
 use Rattle.base_mi.specs.declared.entry.Entry.{Entry}
-use Rattle.frame_walk.specs.List.{list_at, entries_in, seek_entry}
+use Rattle.frame_places.specs.declared.Spot.{Spot}
+use Rattle.frame_walk.specs.List.{entries_from, list_at, entries_in, seek_entry}
 use Rattle.frame_walk.specs.declared.list.Found.{Found}
 use Rattle.frame_walk.proofs.Lists.{length-entries}
-use Rattle.call_hearing.specs.Proof.{is_recent, any_recent}
+use Rattle.call_hearing.specs.Proof.{is_recent, any_recent, named_in}
 
 module _ (own : Mi) (last : ℕ) where
   -- what the search from index i on finds is there, and before it nobody is named
@@ -63,3 +64,12 @@ cond-length false l n h = h
 pub entries-few : (s : List ℕ) (place len : ℕ) → length (entries_in s place len) ≤ len / 16
 unfolding entries_in list_at
 entries-few s place len = cond-length (ltb (length s) (place + (4 + len))) _ (len / 16) (let e = length-entries (len / 16) s (place + 4) in omega arith)
+
+-- a list without octets names nobody
+pub named-empty : (s : List ℕ) (list : Spot) (own : Mi) (last : ℕ) → list.len ≡ 0 → false ≡ named_in s (Some list) own last
+unfolding named_in entries_in list_at entries_from
+named-empty s list own last e = rw e (go (ltb (length s) (list.place + (4 + 0))))
+  where
+    go : (t : Bool) → false ≡ any_recent own last (cond t [] [])
+    go true = refl
+    go false = refl

@@ -106,8 +106,7 @@ pub fn take_sak(
 // The same on the participant that the frame has updated. Who is elected is asked only where there is a Distributed SAK.
 #[tactic(auto, unfolding(crate::specs::Keys::keyed_of))]
 pub fn take_sak_into(p: &mut Participant, frame: &[u8], m: Mi, sak: Option<Spot>) -> Wrapped
-    ensures wrapped { result ≡ (keyed_of p.entry.now frame.now m sak).wrapped }
-    ensures becomes { p.exit.now ≡ (keyed_of p.entry.now frame.now m sak).participant }
+    ensures { (result ≡ (keyed_of p.entry.now frame.now m sak).wrapped) × (p.exit.now ≡ (keyed_of p.entry.now frame.now m sak).participant) }
 {
     let Some(_) = sak else {
         return Wrapped::default();

@@ -93,7 +93,7 @@ module _ (p : Participant) (time latest_pn old_pn : ℕ) (out : List ℕ) where
   unfolding send_facts sent_of
   on-refused why e =
       let fs = send_facts p time latest_pn old_pn (length out) in
-      let r = settle.on-refused p (sent_at p time) (length (frame_at p time latest_pn old_pn)) fs refl why e in
+      let r = settle.on-refused-known p (sent_at p time) (length (frame_at p time latest_pn old_pn)) fs refl why e in
       by_cases (eqb (first_of fs) 0)
       (λ b. let s = (send-accepted (eqb-true (first_of fs) 0 b)).0 in never (let z = rw s at e in cc))
       (λ b. (r.1, (r.0, (send-refused (eqb-false (first_of fs) 0 b)).1)))

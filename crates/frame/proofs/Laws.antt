@@ -14,6 +14,14 @@ use Rattle.base_facts.specs.declared.Refusal.{Refusal}
 use Rattle.frame.specs.Basic.{length_of, fact2, body_len}
 use Rattle.frame.specs.Ours.{same_at}
 
+pub length-short : (s : List ℕ) → length_of s ≡ None → fact2 s ≡ true
+unfolding length_of
+length-short s e = go (fact2 s) e
+  where
+    go : (t : Bool) → cond t None (Some (body_len s)) ≡ None → t ≡ true
+    go true e = refl
+    go false e = absurd (cc)
+
 pub length-octets : (s : List ℕ) (n : ℕ) → length_of s ≡ Some n → (fact2 s ≡ false) × (body_len s ≡ n)
 unfolding length_of
 length-octets s n e = go (fact2 s) e

@@ -1,8 +1,9 @@
 -- How long the parts of an image are, and one turn of the loop that judges an image.
-use Prim.Native.Nat.{ℕ, suc, ◌+◌, ◌*◌, ◌≤◌, ◌<◌}
+use Prim.Native.Nat.{ℕ, suc, ◌+◌, ◌*◌, ◌^◌, ◌≤◌, ◌<◌}
 use mathlib.Core.Path.{◌≡◌, refl, ap, sym, ◌∙◌}
 use mathlib.Core.Bool.{◌&&◌}
 use mathlib.Core.List.{List, [], ◌∷◌, ◌++◌}
+use native.Mathlib.Nat.{mul-le-mul}
 use native.Mathlib.Numerals.{add-one}
 use native.Mathlib.Omega.{arith}
 use lib.ListN.{length, get_or, drop, length-append, drop_of_length-le}
@@ -10,7 +11,8 @@ use lib.Dec.{eqb}
 use lib.Seq.{sets, drop-cons}
 use borrow.Author.Tests.{eq-eqb}
 use Rattle.base_octets.specs.Number.{be_at, be_of}
-use Rattle.base_octets.proofs.Laws.{length-be_of, sets_then}
+use Rattle.base_octets.specs.Octets.{Octets}
+use Rattle.base_octets.proofs.Laws.{be_at-lt, length-be_of, sets_then}
 use Rattle.image_layout.specs.Layout.{Part, contents_head, contents_entry, contents_entries, bodies, place, laid_of, entry_kind, records_at, offset_at, laid_from, laid_out}
 
 -- ---- lengths
@@ -58,6 +60,13 @@ entry-stored l l1 l2 l3 at kind records offset e1 e2 e3 =
     e3
 
 -- ---- one turn of `laid_out`
+
+-- the records and the size are numbers of two octets
+pub body_below : (s : List ℕ) (at n k : ℕ) → Octets s → n ≡ be_at s at 2 → k < 2 ^ 16 → n * k < 2 ^ 32
+body_below s at n k h e hk =
+    let a : n ≤ 65535 = omega (arith, be_at-lt s at 2 h) in
+    let b : k ≤ 65535 = omega arith in
+    omega (arith, mul-le-mul a b)
 
 -- the count and the zero hold: what is left is the entries
 pub laid-counted : (s sizes : List ℕ) → be_at s 0 2 ≡ length sizes → be_at s 2 2 ≡ 0 → laid_from s 0 (place (length sizes)) sizes ≡ laid_out s sizes

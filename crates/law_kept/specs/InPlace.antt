@@ -9,12 +9,21 @@ use Rattle.table.specs.declared.Table.{Table}
 use Rattle.table_lookup.specs.declared.Held.{Held}
 use Rattle.table_enter.specs.declared.Heard.{Heard}
 use Rattle.table.specs.Table.{room, blank_peer, entries, pushed}
-use Rattle.table_lookup.specs.Look.{seek, held_in, first_at, held_at, found_at, no_room_for}
+use Rattle.table_lookup.specs.Look.{seek, held_in, first_at, found_at, no_room_for}
 use Rattle.table_enter.specs.Enter.{held_peer, updated, replaced, entered_at}
 use Rattle.table_expiry.proofs.Aging.{at-most-16}
 use Rattle.law_lists.proofs.Laws.{by_cases, never}
 use Rattle.law_kept.specs.Apart.{found-same}
 use Rattle.law_kept.specs.Entering.{found-missing}
+
+-- what a list has at a place, and what a table has at the place that was found
+abbrev pub held_at : ℕ → Option Peer → Option Held
+held_at at None = None
+held_at at (Some p) = Some (record { at = at; peer = p })
+
+abbrev pub found_in : Option ℕ → Table → Option Held
+found_in None t = None
+found_in (Some at) t = held_at at (slice_get (entries t) at)
 
 -- what is found in the end, where `at` was found before place i
 abbrev pub sought : Mi → Option ℕ → ℕ → List Peer → Option Held
@@ -38,9 +47,15 @@ sought-turn m None i l h =
     (by_cases (mi_same m (get_or l i blank_peer).mi) (λ e. rw (e, slice_get-get_or l i blank_peer h)) (λ e. rw e))
 
 -- after its last turn
-pub sought-end : (m : Mi) (at : Option ℕ) (i : ℕ) (t : Table) → length (entries t) ≤ i → sought m at i (entries t) ≡ found_at at t
+pub sought-end : (m : Mi) (at : Option ℕ) (i : ℕ) (t : Table) → length (entries t) ≤ i → sought m at i (entries t) ≡ found_in at t
 sought-end m (Some at) i t h = refl
 sought-end m None i t h = rw (drop_of_length-le (entries t) h)
+
+-- and so does `found`, handed the entry there
+pub found-sought : (m : Mi) (at : Option ℕ) (i : ℕ) (t : Table) (p : Peer) → length (entries t) ≤ i → ((k : ℕ) → at ≡ Some k → slice_get (entries t) k ≡ Some p)
+    → sought m at i (entries t) ≡ found_at at p
+found-sought m (Some at) i t p h there = rw (there at refl)
+found-sought m None i t p h there = sought-end m None i t h
 
 -- what looking up finds stands in the table: its place is one of the 16
 seek-fits : (m : Mi) (k : ℕ) (l : List Peer) (h : Held) → seek m k l ≡ Some h → h.at < k + length l

@@ -51,7 +51,7 @@ pub or_swap : (a b : Bool) → a || b ≡ b || a
 or_swap true b = sym (or-true b)
 or_swap false b = sym (or-none b)
 
-module _ {A : Type 0} where
+module _ {ℓ} {A : Type ℓ} where
   -- what a loop that goes through the first n has left
   drop-next : (n i : ℕ) (l : List A) (d : A) → i < n → n ≤ length l → drop i (take n l) ≡ get_or l i d ∷ drop (i + 1) (take n l)
   drop-next n i l d h m =
@@ -65,8 +65,9 @@ module _ {A : Type 0} where
   pub drop-end : (n i : ℕ) (l : List A) → n ≤ i → drop i (take n l) ≡ []
   drop-end n i l h = drop_of_length-le (take n l) {i = i} (omega (arith, length-take n l))
 
-  -- ---- those that a test picks
+-- ---- those that a test picks
 
+module _ {A : Type 0} where
   module _ (f : A → Bool) where
     pub those-append : (l m : List A) → those f (l ++ m) ≡ those f l ++ those f m
     those-append [] m = refl
@@ -109,8 +110,9 @@ module _ {A : Type 0} where
         (λ m. every-mem l (second-of (f y) (every f l) e) m)
         (Memᴰ.cases_cons m)
 
-  -- ---- room past a list
+-- ---- room past a list
 
+module _ {ℓ} {A : Type ℓ} where
   pub length-pad : (n : ℕ) (d : A) (l : List A) → length l ≤ n → length (pad n d l) ≡ n
   length-pad n d l h = length-append l (replicate (n - length l) d) ∙ omega (arith, length-replicate (n - length l) d)
 
@@ -123,7 +125,7 @@ module _ {A : Type 0} where
       let e : n - length l ≡ suc (n - (length l + 1)) = omega arith in
       rw (e, set-append_seam, length-append, append_assoc)
 
-module _ {A B : Type 0} (g : A → B) where
+module _ {ℓ} {A B : Type ℓ} (g : A → B) where
   pub map-append : (l m : List A) → map g (l ++ m) ≡ map g l ++ map g m
   map-append [] m = refl
   map-append (x ∷ l) m = ap (λ (k : List B). g x ∷ k) (map-append l m)
@@ -145,6 +147,7 @@ module _ {A B : Type 0} (g : A → B) where
   map-mem (y ∷ l) m =
       ⊎_elim (λ s. Memᴰ.head (ap g s)) (λ m. Memᴰ.tail (map-mem l m)) (Memᴰ.cases_cons m)
 
+module _ {A B : Type 0} (g : A → B) where
   -- one turn of a loop that stores what it makes of the picked ones into a room of n, with k of them stored
   module _ (f : A → Bool) (n : ℕ) (b : B) (l : List A) (i : ℕ) (d : A) (out : List B) (k : ℕ) (y : B)
       (at : i < length l) (count : k ≡ length (map g (those f (take i l)))) (stored : out ≡ pad n b (map g (those f (take i l)))) where

@@ -9,5 +9,6 @@ module _ {A : Type 0} where
   abbrev pub every : (A → Bool) → List A → Bool
   every f l = list_all f l
 
+module _ {ℓ} {A : Type ℓ} where
   abbrev pub pad : ℕ → A → List A → List A
   pad n d l = l ++ replicate (n - length l) d

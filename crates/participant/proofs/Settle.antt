@@ -75,19 +75,29 @@ module _ {T : Type 0} (p : Participant) (r : Called T) (fs : List (ℕ × Bool))
       (λ s none. (s, none))
       (λ n s f. let z : ◌≡◌ {A = ℕ} 0 1 = let y = ap (λ (c : Called T). c.answer) s in cc in never (cc))
 
--- or it refuses, where the facts' numbers are those of refusals
+-- or it refuses
 module _ {T : Type 0} (p q : Participant) (x : T) (fs : List (ℕ × Bool)) where
-  pub on-refused : known fs ≡ true → (why : Refusal) → (settle_to p fs (accepted_of q x)).answer ≡ Err why
-      → (settle_to p fs (accepted_of q x) ≡ record { participant = p; answer = Err why }) × First fs (number_of why)
-  on-refused k why e =
+  -- by the first fact that holds, whose refusal it tells
+  pub on-refused : (why : Refusal) → (settle_to p fs (accepted_of q x)).answer ≡ Err why
+      → (settle_to p fs (accepted_of q x) ≡ refused_of p (first_of fs)) × ((refusal (first_of fs) ≡ why) × First fs (first_of fs))
+  on-refused why e =
       by_cases (eqb (first_of fs) 0)
       (λ b. never (let z = rw b at e in cc))
       (λ b. let h = eqb-false (first_of fs) 0 b in
       let s = refused-exactly p (accepted_of q x) fs (first_of fs) refl h in
       let given = ap (λ (c : Called T). c.answer) s in
       let same : refusal (first_of fs) ≡ why = cc in
-      let n : number_of why ≡ first_of fs = ap number_of (sym same) ∙ first-refusal fs k h in
-      (s ∙ ap (λ (w : Refusal). record { participant = p; answer = Err w }) same, rw n (first_holds fs h)))
+      (s, (same, first_holds fs h)))
+
+  -- by its number, where the facts' numbers are those of refusals
+  pub on-refused-known : known fs ≡ true → (why : Refusal) → (settle_to p fs (accepted_of q x)).answer ≡ Err why
+      → (settle_to p fs (accepted_of q x) ≡ record { participant = p; answer = Err why }) × First fs (number_of why)
+  on-refused-known k why e =
+      by_cases (eqb (first_of fs) 0)
+      (λ b. never (let z = rw b at e in cc))
+      (λ b. let r = on-refused why e in
+      let n : number_of why ≡ first_of fs = ap number_of (sym r.1.0) ∙ first-refusal fs k (eqb-false (first_of fs) 0 b) in
+      (r.0 ∙ ap (λ (w : Refusal). record { participant = p; answer = Err w }) r.1.0, rw n r.1.1))
 
   -- and so it does, of the first fact that holds
   pub refuses-first : numbered fs ≡ true → (why : Refusal) → First fs (number_of why) → settle_to p fs (accepted_of q x) ≡ record { participant = p; answer = Err why }

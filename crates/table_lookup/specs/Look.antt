@@ -1,5 +1,5 @@
 -- Looking an MI up, and what facts 11 and 12 ask of the answer.
-use Rattle.std.specs.Prelude.{ℕ, ◌+◌, Bool, false, cond, not, ◌&&◌, ◌||◌, List, [], ◌∷◌, Option, Some, None, leb, eqb, slice_get}
+use Rattle.std.specs.Prelude.{ℕ, ◌+◌, Bool, false, cond, not, ◌&&◌, ◌||◌, List, [], ◌∷◌, Option, Some, None, leb, eqb}
 use Rattle.base_mi.specs.declared.Mi.{Mi}
 use Rattle.base_mi.specs.Mi.{mi_same}
 use Rattle.table.specs.declared.Peer.{Peer}
@@ -20,14 +20,10 @@ abbrev pub first_at : Option ℕ → ℕ → Mi → Peer → Option ℕ
 first_at None i m p = cond (mi_same m p.mi) (Some i) None
 first_at (Some at) i m p = Some at
 
--- What a place tells.
-abbrev pub held_at : ℕ → Option Peer → Option Held
-held_at at None = None
-held_at at (Some p) = Some (record { at = at; peer = p })
-
-abbrev pub found_at : Option ℕ → Table → Option Held
-found_at None t = None
-found_at (Some at) t = held_at at (slice_get (entries t) at)
+-- What the place tells, where p is the entry there.
+abbrev pub found_at : Option ℕ → Peer → Option Held
+found_at None p = None
+found_at (Some at) p = Some (record { at = at; peer = p })
 
 abbrev pub not_above : Option Held → ℕ → Bool
 not_above (Some h) mn = leb mn h.peer.mn

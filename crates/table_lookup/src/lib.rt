@@ -38,12 +38,12 @@ pub fn first(at: Option<usize>, i: usize, m: Mi, p: &Peer) -> Option<usize>
     }
 }
 
-// What the place that `first` came to tells.
-pub fn found(at: Option<usize>, t: &Table) -> Option<Held>
-    ensures { result ≡ found_at at t.now }
+// What the place that `first` came to tells, where `p` is the entry there.
+pub fn found(at: Option<usize>, p: &Peer) -> Option<Held>
+    ensures { result ≡ found_at at p.now }
 {
     let at = at?;
-    let peer = *t.held().get(at)?;
+    let peer = *p;
     Some(Held { at, peer })
 }
 

@@ -49,6 +49,6 @@ returns c =
     let live = c.becomes_live.ensures ∙ ap (becomes_live c.look-held.result) c.proves-proves.ensures in
     let table = c.enter.ensures ∙ (λ i. entered_at c.look-held.result (c.heard_of-heard.ensures i) (c.proves-proves.ensures i) c.args.time c.expire.new.t) in
     c.accepted.ensures
-    ∙ (λ i. accepted_of (record { participant = c.take_sak_into-wrapped.ensures.becomes i; wrapped = c.take_sak_into-wrapped.ensures.wrapped i }))
+    ∙ (λ i. accepted_of (record { participant = c.take_sak_into-wrapped.ensures.1 i; wrapped = c.take_sak_into-wrapped.ensures.0 i }))
     ∙ (λ i. accepted_of (keyed_of (set_mark (p.mark || live i) (set_clock c.args.time (set_table (table i) p))) c.args.frame.now j.basic.mi j.places.sak))
     ∙ sym (good (goal.at.returns c).In-Some ∙ settled-good p c.args.time c.args.frame.now j.basic j.places _ _ c.expire.ensures c.look-held.ensures new room)

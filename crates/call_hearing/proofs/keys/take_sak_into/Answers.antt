@@ -11,8 +11,7 @@ taken c =
     ap (keyed_with a.p.now) (c.take_sak-taken.ensures ∙ (λ i. taken_of (c.server.ensures i) a.p.now.latest a.p.now.old a.frame.now a.m a.sak))
     ∙ keyed-taken a.p.now a.frame.now a.m a.sak
 
-pub returns-clause-becomes : goal.returns-clause-becomes
-returns-clause-becomes c = ap (λ (k : Keyed). k.participant) (taken (goal.at.returns-clause-becomes c).After-take_sak-taken)
-
-pub returns-clause-wrapped : goal.returns-clause-wrapped
-returns-clause-wrapped c = ap (λ (k : Keyed). k.wrapped) (taken (goal.at.returns-clause-wrapped c).After-take_sak-taken)
+pub returns : goal.returns
+returns c =
+    let k = taken (goal.at.returns c).After-take_sak-taken in
+    (ap (λ (k : Keyed). k.wrapped) k, ap (λ (k : Keyed). k.participant) k)
